@@ -12,7 +12,7 @@ use Rattle.keys.specs.declared.version.Version.{Version}
 use Rattle.keys.specs.declared.version.Version.TheVariants.{One, Two}
 use Rattle.mapping.specs.Tree.{Store}
 use Rattle.flush_log.specs.AfterFlush.{after_text, of_version_two, unless_upgraded, flush_commit, file_after, store_after, is_spent}
-use Rattle.flush_log.specs.FlushText.{flush_text, upgrade_text, flushed}
+use Rattle.flush_log.specs.FlushText.{flush_frames, upgrade_frames, flushed}
 use Rattle.flush_log.specs.Layout.{is_full_for_flush}
 use Rattle.engine.specs.Cleaning.{CleanRow, count_of, reads_in}
 use Rattle.engine.specs.Steps.{Step, Answer, Stepped, unless_refused, after_step, batching}
@@ -85,10 +85,10 @@ module _ (settings : Settings) (st : Store) (f g : List ℕ) where
       subst (λ (z : Step Global). without_bytes (stepped f z) ≡ without_bytes (stepped g z)) same (batch-same _ _ _ f g)
   order-same Flush only y is =
       let same : (let z : Step Global = Step.Flush in z ≡ y) = cc in
-      subst (λ (z : Step Global). without_bytes (stepped f z) ≡ without_bytes (stepped g z)) same (text-same of_flush settings st f g (flush_text st.version st.tree))
+      subst (λ (z : Step Global). without_bytes (stepped f z) ≡ without_bytes (stepped g z)) same (text-same of_flush settings st f g (flush_frames st.version st.tree))
   order-same Upgrade only y is =
       let same : (let z : Step Global = Step.Upgrade in z ≡ y) = cc in
-      subst (λ (z : Step Global). without_bytes (stepped f z) ≡ without_bytes (stepped g z)) same (upgrade-same st.version settings (of_version_two st) f g (upgrade_text st.tree))
+      subst (λ (z : Step Global). without_bytes (stepped f z) ≡ without_bytes (stepped g z)) same (upgrade-same st.version settings (of_version_two st) f g (upgrade_frames st.tree))
   order-same Clean only y is = absurd only
   order-same _ only y is = absurd (cc)
 

@@ -18,7 +18,7 @@ use Rattle.keys.specs.Lists.{flat}
 use Rattle.mapping.specs.Tree.{Store}
 use Rattle.climb_plan.specs.Plan.{plan}
 use Rattle.flush_log.specs.AfterFlush.{after_flush, after_upgrade, after_text, of_version_two, unless_upgraded, flush_commit, file_after, store_after, is_spent}
-use Rattle.flush_log.specs.FlushText.{flush_text, upgrade_text, flushed}
+use Rattle.flush_log.specs.FlushText.{flush_frames, upgrade_frames, flushed}
 use Rattle.flush_log.specs.Layout.{is_full_for_flush}
 use Rattle.recovery.specs.StoreOfDisk.{and_then}
 use Rattle.cleaner.specs.AfterClean.{after_clean}
@@ -345,13 +345,13 @@ upgrade-goes Two r p e = absurd (cc)
 upgrade-leaves : (settings : Settings) (st : Store) (f : List ℕ) (p : Store × List ℕ) → after_upgrade settings st f ≡ Ok p → contents p.0.tree ≡ contents st.tree
 upgrade-leaves settings st f p e =
     let two : Store = of_version_two st in
-    text-leaves settings two f (upgrade_text st.tree) p (upgrade-goes st.version (after_text settings two f (upgrade_text st.tree)) p e)
+    text-leaves settings two f (upgrade_frames st.tree) p (upgrade-goes st.version (after_text settings two f (upgrade_frames st.tree)) p e)
 
 -- ---- which segment is the first one
 
 -- a flush leaves it
 pub flush_head : (settings : Settings) (st : Store) (file : List ℕ) (p : Answer Global × (Store × List ℕ)) → after_step (batching settings) settings st file Step.Flush ≡ Ok p → p.1.0.head ≡ st.head
-flush_head settings st file p done = text-head settings st file (flush_text st.version st.tree) p.1 (answered_by of_flush (after_flush settings st file) p done).1
+flush_head settings st file p done = text-head settings st file (flush_frames st.version st.tree) p.1 (answered_by of_flush (after_flush settings st file) p done).1
 
 -- and a clean leaves the next one as such
 pub clean_head : (settings : Settings) (st : Store) (file : List ℕ) (answer : Answer Global) (now : Store) (bytes : List ℕ)
@@ -406,7 +406,7 @@ module _ (settings : Settings) (st : Store) where
       ap (λ (s : Store). contents s.tree) (batch-leaves _ _ (plan settings st cs) file p (subst (λ (z : Step Global). steps_to file z p) (sym same) done)) ∙ hold cs
   map_of hold keep file Flush y p is done =
       let same : (let z : Step Global = Step.Flush in z ≡ y) = cc in
-      text-leaves settings st file (flush_text st.version st.tree) p.1
+      text-leaves settings st file (flush_frames st.version st.tree) p.1
       (answered_by of_flush (after_flush settings st file) p (subst (λ (z : Step Global). steps_to file z p) (sym same) done)).1
   map_of hold keep file Clean y p is done =
       let same : (let z : Step Global = Step.Clean in z ≡ y) = cc in

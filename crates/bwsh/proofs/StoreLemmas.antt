@@ -9,7 +9,7 @@ use Rattle.keys.specs.declared.fault.Fault.TheVariants as fault
 use Rattle.keys.specs.declared.settings.Field.{Field}
 use Rattle.keys.specs.declared.settings.Settings.{Settings}
 use Rattle.mapping.specs.Tree.{Store}
-use Rattle.flush_log.specs.Disk.{View, IsSettled, Kept}
+use Rattle.flush_log.specs.Disk.{View, IsSynced, Kept}
 use Rattle.flush_log.specs.NewStore.{disk_of_new}
 use Rattle.flush_log.specs.Segments.{disk_size}
 use Rattle.recovery.specs.Recovered.{IsLate}
@@ -66,7 +66,7 @@ module _ (settings : Settings) (file : List ℕ) where
 
     -- it is made on a disk that is as honest as before
     pub Opens-made : {D : Type 0} (view : D → View) (x : State D) (old : View) → x.settings ≡ settings → x.store ≡ first_store → (view x.disk).is_honest ≡ old.is_honest
-        → (IsTrue old.is_honest → old.seen ≡ file) → (IsTrue old.is_honest → (after_create settings old.seen ≡ Ok (x.store, (view x.disk).seen)) × IsSettled (view x.disk))
+        → (IsTrue old.is_honest → old.seen ≡ file) → (IsTrue old.is_honest → (after_create settings old.seen ≡ Ok (x.store, (view x.disk).seen)) × IsSynced (view x.disk))
         → disk_size settings ≤ old.size → (IsTrue old.is_honest → length old.seen ≡ old.size) → Opens view (new_start settings file) (Ok x)
     Opens-made view x old e_settings e_store honest_is seen_is made room whole = (
       disk_of_new settings file,

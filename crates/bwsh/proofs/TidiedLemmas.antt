@@ -21,7 +21,7 @@ use Rattle.flush_log.specs.Slot.{Slot}
 use Rattle.recovery.specs.LogPages.{broken_in}
 use Rattle.recovery.specs.StoreOfDisk.{and_then, frames_in, unless_found}
 use Rattle.cleaner.specs.AfterClean.{after_carried, after_clean, after_clean_of, clean_commit}
-use Rattle.cleaner.specs.CleanText.{clean_text}
+use Rattle.cleaner.specs.CleanText.{clean_frames}
 use Rattle.engine.specs.Batches.{tree_in_turn}
 use Rattle.engine.specs.Cleaning.{CleanRow, reads_in}
 use Rattle.engine.specs.Compacted.{IsCompacted, compacted}
@@ -347,7 +347,7 @@ module _ (settings : Settings) (st : Store) (tree : Tree) (file : List ℕ) wher
   text-any_tree (Err fault) = refl
 
   found-any_tree : (found : Result (List Found) Fault) → and_then found (after_clean_of settings (with_tree st tree) file) ≡ retreed_by tree (and_then found (after_clean_of settings st file))
-  found-any_tree (Ok found) = text-any_tree (unless_found (broken_in (frames_in found)) (clean_text st.head found))
+  found-any_tree (Ok found) = text-any_tree (unless_found (broken_in (frames_in found)) (clean_frames st.head found))
   found-any_tree (Err fault) = refl
 
   unless-any_tree : (alone : Bool) (found : Result (List Found) Fault) → unless_alone alone (and_then found (after_clean_of settings (with_tree st tree) file))

@@ -173,12 +173,12 @@ module _ (c : List Rule) (facts : HasOptions c) (rows : List Row) (pen : Pending
   gives_turn : (name text : Text) (k : TakesText c name) (o : Option Rule) → takes_text name ≡ true → Some (taking name k.defaults k.parser) ≡ o
       → Turn (long_fault c false o (Some text) here) (met_long o (Some text)) (gives name text)
   gives_turn name text k o is e =
-      let settled = settled_rows c pen rows in
+      let is_synced = settled_rows c pen rows in
       subst (λ (r : Option Rule). Turn (long_fault c false r (Some text) here) (met_long r (Some text)) (gives name text))
       e (
         not_flag_text name text is,
-        or_else-none _ ∙ ap (or_else (settle_fault c false here)) (use_is c name text k settled),
-        ap (λ (rs : List Row). standing rs None idle false) (used_is c name text k settled),
+        or_else-none _ ∙ ap (or_else (settle_fault c false here)) (use_is c name text k is_synced),
+        ap (λ (rs : List Row). standing rs None idle false) (used_is c name text k is_synced),
       )
 
   -- `--name` of an option
@@ -192,11 +192,11 @@ module _ (c : List Rule) (facts : HasOptions c) (rows : List Row) (pen : Pending
   given_turn : (name : Text) (o : Option Rule) → takes_nothing name ≡ true → Some (built_flag name) ≡ o
       → Turn (long_fault c false o None here) (met_long o None) (gives name (codes "true"))
   given_turn name o is e =
-      let settled = settled_rows c pen rows in
+      let is_synced = settled_rows c pen rows in
       subst (λ (r : Option Rule). Turn (long_fault c false r None here) (met_long r None) (gives name (codes "true"))) e (
         λ _. refl,
-        or_else-none _ ∙ ap (or_else (settle_fault c false here)) (flag_fault name is settled),
-        ap (λ (b : Bool). standing (with_values name (cond b WithoutMinus AsWritten) CommandLine (codes "true" ∷ []) (without name settled)) None idle false) (sym (no_number name is)),
+        or_else-none _ ∙ ap (or_else (settle_fault c false here)) (flag_fault name is is_synced),
+        ap (λ (b : Bool). standing (with_values name (cond b WithoutMinus AsWritten) CommandLine (codes "true" ∷ []) (without name is_synced)) None idle false) (sym (no_number name is)),
       )
 
   -- a name that there is not

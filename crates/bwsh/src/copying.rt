@@ -4,7 +4,7 @@ ghost use Rattle.std.specs.Prelude.{◌≡◌, ◌≤◌, false, None, Ok, Err, 
 ghost use Rattle.std.specs.Option.{option_map};
 ghost use Rattle.keys.specs.Limits.{first_bad_field};
 ghost use Rattle.mapping.specs.Levels.{contents};
-ghost use Rattle.flush_log.specs.Disk.{IsSettled};
+ghost use Rattle.flush_log.specs.Disk.{IsSynced};
 ghost use Rattle.flush_log.specs.Segments.{disk_size};
 ghost use Rattle.recovery.specs.StoreOfDisk.{store_of_disk};
 ghost use Rattle.bwsh.specs.Options.{copy_of, request_of};
@@ -166,7 +166,7 @@ fn copy_store<R: Threads + Sync, P: Observer, D: Disk, E: Disk>(
         contents copy.store.tree ≡ contents store.now.store.tree) }
     ensures bytes { IsTrue (E.view disk).is_honest → IfOk result (λ copy.
         (store_of_disk (E.view copy.disk).seen ≡ Ok (settings, copy.store))
-        × IsSettled (E.view copy.disk)) }
+        × IsSynced (E.view copy.disk)) }
     ensures refused { IfErr result
         (λ e. IsCopyEnd settings (contents store.now.store.tree) e.0) }
 {

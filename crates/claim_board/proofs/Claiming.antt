@@ -10,7 +10,7 @@ use Rattle.std.proofs.lemmas.Bool.Decides.{nat_tests}
 use lib.ListN.{get_elem?}
 use Rattle.atomic_table.specs.Table.{State, keeps, takes, Allows}
 use Rattle.atomic_table.proofs.Lists.{at_set, set_else}
-use Rattle.claim_board.specs.declared.rule.Hand.{Hand}
+use Rattle.claim_board.specs.declared.rule.PassState.{PassState}
 use Rattle.claim_board.specs.declared.rule.Slot.{Slot}
 use Rattle.claim_board.specs.declared.rule.Slot.TheVariants.{Piece}
 use Rattle.claim_board.specs.Counting.{times}
@@ -30,16 +30,16 @@ all_more w m xs le h = λ k d l. let below = h k d l in omega arith
 
 module _ {P : Type 0} (all : List P) (last : Slot P) (count : ℕ) where
   -- the word stays far below its greatest value
-  small : (s : State (Slot P) (Hand P)) → Keeps all last count s → slice_index s.words 0 ≤ length all + count
+  small : (s : State (Slot P) (PassState P)) → Keeps all last count s → slice_index s.words 0 ≤ length all + count
   small s k =
-      let few = total-le (λ (v : Hand P). v.misses) (λ v. v.passes) s.views (λ i v e. (k.fits i v e).few_misses) in
+      let few = total-le (λ (v : PassState P). v.misses) (λ v. v.passes) s.views (λ i v e. (k.fits i v e).few_misses) in
       let word = k.word_is in let passes = k.passes in omega arith
 
-  fits_more : (w m : ℕ) (v : Hand P) → w ≤ m → Fits all w v → Fits all m v
+  fits_more : (w m : ℕ) (v : PassState P) → w ≤ m → Fits all w v → Fits all m v
   fits_more w m v le f = record { same_pieces = f.same_pieces; few_misses = f.few_misses; miss_past_end = λ d. let past = f.miss_past_end d in omega arith; below = all_more w m v.drawn le f.below; spent = f.spent }
 
   -- the word is incremented, and with it the claims or misses of one state
-  steps : (s : State (Slot P) (Hand P)) (ws : List ℕ) (homes : List (Option (Slot P))) (id : ℕ) (v n : Hand P) → Keeps all last count s → get_elem? s.views id ≡ some v
+  steps : (s : State (Slot P) (PassState P)) (ws : List ℕ) (homes : List (Option (Slot P))) (id : ℕ) (v n : PassState P) → Keeps all last count s → get_elem? s.views id ≡ some v
       → length ws ≡ 1 → slice_index ws 0 ≡ slice_index s.words 0 + 1 → n.passes ≡ v.passes
       → min (slice_index ws 0) (length all) + n.misses ≡ min (slice_index s.words 0) (length all) + v.misses + 1
       → length n.drawn + min (slice_index s.words 0) (length all) ≡ length v.drawn + min (slice_index ws 0) (length all)
@@ -64,7 +64,7 @@ module _ {P : Type 0} (all : List P) (last : Slot P) (count : ℕ) where
       }
 
   -- the word w was below the number of pieces, and the state claimed piece w
-  drew : (s : State (Slot P) (Hand P)) (ws : List ℕ) (id : ℕ) (v : Hand P) → Keeps all last count s → get_elem? s.views id ≡ some v → v.pieces ≡ all
+  drew : (s : State (Slot P) (PassState P)) (ws : List ℕ) (id : ℕ) (v : PassState P) → Keeps all last count s → get_elem? s.views id ≡ some v → v.pieces ≡ all
       → 0 < v.passes → slice_index s.words 0 < length all → length ws ≡ 1 → slice_index ws 0 ≡ slice_index s.words 0 + 1
       → Keeps all last count record { words = ws; homes = set s.homes (slice_index s.words 0) none; views = set s.views id (hand v.pieces v.passes (v.drawn ++ slice_index s.words 0 ∷ []) v.misses) }
   drew s ws id v k at pieces part lt one up =
@@ -88,7 +88,7 @@ module _ {P : Type 0} (all : List P) (last : Slot P) (count : ℕ) where
       (λ j y le e. set_else s.homes w j none (λ same. omega arith) ∙ k.home j y (omega arith) e)
 
   -- the word had passed the pieces
-  missed : (s : State (Slot P) (Hand P)) (ws : List ℕ) (id : ℕ) (v : Hand P) → Keeps all last count s → get_elem? s.views id ≡ some v → v.pieces ≡ all
+  missed : (s : State (Slot P) (PassState P)) (ws : List ℕ) (id : ℕ) (v : PassState P) → Keeps all last count s → get_elem? s.views id ≡ some v → v.pieces ≡ all
       → 0 < v.passes → v.misses ≡ 0 → length all ≤ slice_index s.words 0 → length ws ≡ 1 → slice_index ws 0 ≡ slice_index s.words 0 + 1
       → Keeps all last count record { words = ws; homes = s.homes; views = set s.views id (hand v.pieces v.passes v.drawn (v.misses + 1)) }
   missed s ws id v k at pieces part none_yet le one up =
@@ -100,7 +100,7 @@ module _ {P : Type 0} (all : List P) (last : Slot P) (count : ℕ) where
       record { same_pieces = λ _. pieces; few_misses = omega arith; miss_past_end = λ d. omega arith; below = all_more w m v.drawn (omega arith) f.below; spent = f.spent }
       (λ j y b e. k.home j y (omega arith) e)
 
-  pub claims : (slots id : ℕ) (v : Hand P) (c : List (ℕ × Slot P)) → length all + count < 2 ^ 63 → v.pieces ≡ all → 0 < v.passes → v.misses ≡ 0
+  pub claims : (slots id : ℕ) (v : PassState P) (c : List (ℕ × Slot P)) → length all + count < 2 ^ 63 → v.pieces ≡ all → 0 < v.passes → v.misses ≡ 0
       → Allows (Keeps all last count) slots id (v, c) 0 (λ n. (n + 1) % 2 ^ 64) (λ n w. Draws (v, c) n w)
   claims slots id v c few pieces part none_yet s k homes at fits =
       let w = slice_index s.words 0 in
@@ -132,7 +132,7 @@ module _ {P : Type 0} (all : List P) (last : Slot P) (count : ℕ) where
             taken = refl;
             piece_is = subst (λ l. get_elem? l w ≡ some x.0) (sym pieces) x.1;
             rising = (k.fits id v at).below;
-            as_many = let o = one-le-total (λ (u : Hand P). length u.drawn) s.views id v at in let t = k.many in omega arith;
+            as_many = let o = one-le-total (λ (u : PassState P). length u.drawn) s.views id v at in let t = k.many in omega arith;
           }),
           (λ le. absurd (omega arith)),
         ),

@@ -7,7 +7,7 @@ use native.Mathlib.Decide.{dec_le}
 use Rattle.std.proofs.lemmas.List.{take_more}
 use lib.ListN.{get_elem?}
 use Rattle.atomic_table.specs.Table.{Final, Seen}
-use Rattle.claim_board.specs.declared.rule.Hand.{Hand}
+use Rattle.claim_board.specs.declared.rule.PassState.{PassState}
 use Rattle.claim_board.specs.declared.rule.Slot.{Slot}
 use Rattle.claim_board.specs.Counting.{times, total, HasEachBelowOnce}
 use Rattle.claim_board.specs.Rule.{slots_of, Keeps}
@@ -33,13 +33,13 @@ alone h f (x ∷ xs) (suc i) v at e z =
 
 module _ {P : Type 0} (all : List P) (last : Slot P) (count : ℕ) where
   -- what the hand knows of a closed table whose first word is w
-  pub record Ends (w : ℕ) (v : Hand P) (slots : List (Slot P)) : Type 0 where
+  pub record Ends (w : ℕ) (v : PassState P) (slots : List (Slot P)) : Type 0 where
     pub once : HasEachBelowOnce (length v.drawn) v.drawn
     pub many : length v.drawn ≡ min w (length all)
     pub miss_past_end : 0 < v.misses → length all < w
     pub home : (k : ℕ) (y : Slot P) → length v.drawn ≤ k → get_elem? (slots_of all last) k ≡ some y → get_elem? slots k ≡ some y
 
-  pub ends : (id : ℕ) (v : Hand P) (words : List ℕ) (slots : List (Slot P)) (w : ℕ) → v.passes ≡ count → get_elem? words 0 ≡ some w → Final (Seen (Keeps all last count) id v) words slots → Ends w v slots
+  pub ends : (id : ℕ) (v : PassState P) (words : List ℕ) (slots : List (Slot P)) (w : ℕ) → v.passes ≡ count → get_elem? words 0 ≡ some w → Final (Seen (Keeps all last count) id v) words slots → Ends w v slots
   ends id v words slots w whole at_word final =
       let s = final.0 in let k = final.1.0 in let at = final.1.1 in
       let word : slice_index s.words 0 ≡ w = ap (λ ws. slice_index ws 0) final.2 ∙ first_is words w at_word in
@@ -61,14 +61,14 @@ module _ {P : Type 0} (all : List P) (last : Slot P) (count : ℕ) where
       first_is (x ∷ xs) n e = some-injective x n e
 
   -- the slot after the pieces has what it had at the start
-  pub last_is : (w : ℕ) (v : Hand P) (slots : List (Slot P)) (k : ℕ) (y : Slot P) → Ends w v slots → k ≡ length all → get_elem? slots k ≡ some y → y ≡ last
+  pub last_is : (w : ℕ) (v : PassState P) (slots : List (Slot P)) (k : ℕ) (y : Slot P) → Ends w v slots → k ≡ length all → get_elem? slots k ≡ some y → y ≡ last
   last_is w v slots k y e end at =
       let many = e.many in
       let home = e.home (length all) last (omega arith) (last_at all last) in
       some-injective y last (sym at ∙ ap (λ j. get_elem? slots j) end ∙ home)
 
   -- the slot of an unclaimed piece has its piece
-  pub piece_is : (w : ℕ) (v : Hand P) (slots : List (Slot P)) (k : ℕ) (y : Slot P) → Ends w v slots → k < length all → w ≤ k → get_elem? slots k ≡ some y → (x : P) × (get_elem? all k ≡ some x) × (y ≡ Piece x)
+  pub piece_is : (w : ℕ) (v : PassState P) (slots : List (Slot P)) (k : ℕ) (y : Slot P) → Ends w v slots → k < length all → w ≤ k → get_elem? slots k ≡ some y → (x : P) × (get_elem? all k ≡ some x) × (y ≡ Piece x)
   piece_is w v slots k y e below le at =
       let x = at_below all k below in let many = e.many in
       let home = e.home k (Piece x.0) (omega arith) (piece_at all last k x.0 x.1) in

@@ -6,7 +6,7 @@ use Rattle.std.specs.Prelude.{Some}
 use Rattle.atomic_table.proofs.Lists.{at_index}
 use Rattle.claim_board.specs.declared.draw.Board.{Board}
 use Rattle.claim_board.specs.declared.draw.Pass.{Pass}
-use Rattle.claim_board.specs.declared.rule.Hand.{Hand}
+use Rattle.claim_board.specs.declared.rule.PassState.{PassState}
 use Rattle.claim_board.specs.Counting.{times, total}
 use Rattle.claim_board.specs.Passes.{drawn_by, drawn_by_all, found_none, IsPassOf, Closes}
 use Rattle.claim_board.specs.Rule.{Leaves}
@@ -20,7 +20,7 @@ module _ {P : Type 0} (board : Board P) where
   misses_of pass = pass.seat.me.0.misses
 
   -- the state has everything that all passes had, except the remaining ones
-  pub record Gathered (all : Hand P) (left passes : List (Pass P)) : Type 0 where
+  pub record Gathered (all : PassState P) (left passes : List (Pass P)) : Type 0 where
     pub mine : All (IsPassOf board) left
     pub some : 0 < all.passes
     pub stands : all.passes + length left ≡ length passes
@@ -40,7 +40,7 @@ module _ {P : Type 0} (board : Board P) where
         misses = let t = total-pop misses_of passes left first e in omega arith;
       }
 
-  pub gathers_next : (all new : Hand P) (passes left rest : List (Pass P)) (pass : Pass P) → left ≡ rest ++ pass ∷ [] → Gathered all left passes
+  pub gathers_next : (all new : PassState P) (passes left rest : List (Pass P)) (pass : Pass P) → left ≡ rest ++ pass ∷ [] → Gathered all left passes
       → new.passes ≡ all.passes + 1 → new.drawn ≡ all.drawn ++ drawn_by pass → new.misses ≡ all.misses + misses_of pass → Gathered new rest passes
   gathers_next all new passes left rest pass e g more drew missed =
       let parts = All-pop (IsPassOf board) left rest (Some pass) e g.mine in record {
@@ -64,7 +64,7 @@ module _ {P : Type 0} (board : Board P) where
       let one = one-le-total misses_of passes any.0 pass (at_index passes any.0 pass any.2 (sym any.3)) in omega arith
 
   -- after the last pass is merged, the state gives what closing returns
-  pub closes : (all : Hand P) (pieces given : List P) (left passes : List (Pass P)) → left ≡ [] → All (IsPassOf board) passes → Gathered all left passes → Leaves pieces all given → Closes pieces passes given
+  pub closes : (all : PassState P) (pieces given : List P) (left passes : List (Pass P)) → left ≡ [] → All (IsPassOf board) passes → Gathered all left passes → Leaves pieces all given → Closes pieces passes given
   closes all pieces given left passes none mine g leaves =
       let many : length (drawn_by_all passes) ≡ length all.drawn =
       (let z = ap (total (λ (pass : Pass P). length (drawn_by pass))) none in let d = g.many in let f = length-flat_map drawn_by passes in omega arith) in

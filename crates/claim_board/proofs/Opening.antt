@@ -5,7 +5,7 @@ use Rattle.std.proofs.lemmas.Bool.Decides.{nat_tests}
 use lib.ListN.{get_elem?}
 use Rattle.atomic_table.specs.Table.{opening}
 use Rattle.atomic_table.proofs.Lists.{at_map}
-use Rattle.claim_board.specs.declared.rule.Hand.{Hand}
+use Rattle.claim_board.specs.declared.rule.PassState.{PassState}
 use Rattle.claim_board.specs.declared.rule.Slot.{Slot}
 use Rattle.claim_board.specs.Rule.{hand, slots_of, Fits, Keeps}
 
@@ -16,7 +16,7 @@ module _ {P : Type 0} (all : List P) (last : Slot P) (count : ℕ) where
   first_fits : Fits all 0 (hand all count [] 0)
   first_fits = record { same_pieces = λ _. refl; few_misses = omega arith; miss_past_end = λ d. absurd (omega arith); below = (λ i d l. absurd (omega arith)); spent = λ _. refl }
 
-  only : (j : ℕ) (v u : Hand P) → get_elem? (v ∷ []) j ≡ some u → v ≡ u
+  only : (j : ℕ) (v u : PassState P) → get_elem? (v ∷ []) j ≡ some u → v ≡ u
   only zero v u e = some-injective v u e
   only (suc j) v u e = absurd (some-ne-none u (sym e))
 

@@ -9,7 +9,7 @@ use native.Mathlib.Decide.{dec_le}
 use lib.ListN.{get_elem?}
 use Rattle.atomic_table.specs.Table.{Splits, Joins}
 use Rattle.atomic_table.proofs.Lists.{at_set, at_snoc, set_else}
-use Rattle.claim_board.specs.declared.rule.Hand.{Hand}
+use Rattle.claim_board.specs.declared.rule.PassState.{PassState}
 use Rattle.claim_board.specs.declared.rule.Slot.{Slot}
 use Rattle.claim_board.specs.Counting.{times, total}
 use Rattle.claim_board.specs.Rule.{hand, Fits, Keeps}
@@ -29,7 +29,7 @@ module _ {P : Type 0} (all : List P) (last : Slot P) (count : ℕ) where
   nothing_fits w = record { same_pieces = λ p. absurd (omega arith); few_misses = omega arith; miss_past_end = λ d. absurd (omega arith); below = below_none w; spent = λ _. refl }
 
   -- where one hand is cut in two that fit
-  splits : (id : ℕ) (v l r : Hand P) → l.misses + r.misses ≡ v.misses → l.passes + r.passes ≡ v.passes → length l.drawn + length r.drawn ≡ length v.drawn
+  splits : (id : ℕ) (v l r : PassState P) → l.misses + r.misses ≡ v.misses → l.passes + r.passes ≡ v.passes → length l.drawn + length r.drawn ≡ length v.drawn
       → ((x : ℕ) → times x l.drawn + times x r.drawn ≡ times x v.drawn)
       → ((w : ℕ) → Fits all w v → Fits all w l × Fits all w r) → Splits (Keeps all last count) id v l r
   splits id v l r misses passes many drawn both s k at =
@@ -49,11 +49,11 @@ module _ {P : Type 0} (all : List P) (last : Slot P) (count : ℕ) where
       }
 
   -- all that a pass knows goes to a new seat
-  pub hands_over : (id : ℕ) (v : Hand P) → Splits (Keeps all last count) id v (hand [] 0 [] 0) v
+  pub hands_over : (id : ℕ) (v : PassState P) → Splits (Keeps all last count) id v (hand [] 0 [] 0) v
   hands_over id v = splits id v (hand [] 0 [] 0) v (omega arith) (omega arith) (omega arith) (λ x. omega arith) (λ w f. (nothing_fits w, f))
 
   -- one pass is cut off
-  pub cuts_one : (id : ℕ) (v : Hand P) → 0 < v.passes → v.misses ≡ 0 → v.drawn ≡ [] → Splits (Keeps all last count) id v (hand v.pieces (v.passes - 1) v.drawn v.misses) (hand v.pieces 1 [] 0)
+  pub cuts_one : (id : ℕ) (v : PassState P) → 0 < v.passes → v.misses ≡ 0 → v.drawn ≡ [] → Splits (Keeps all last count) id v (hand v.pieces (v.passes - 1) v.drawn v.misses) (hand v.pieces 1 [] 0)
   cuts_one id v part none_missed none_drawn =
       splits id v (hand v.pieces (v.passes - 1) v.drawn v.misses) (hand v.pieces 1 [] 0) (omega arith) (omega arith) (omega arith) (λ x. omega arith)
       (λ w f. (
@@ -62,7 +62,7 @@ module _ {P : Type 0} (all : List P) (last : Slot P) (count : ℕ) where
       ))
 
   -- another pass is merged into a pass
-  pub joins : (id : ℕ) (v : Hand P) (other : ℕ) (w : Hand P) → 0 < v.passes
+  pub joins : (id : ℕ) (v : PassState P) (other : ℕ) (w : PassState P) → 0 < v.passes
       → Joins (Keeps all last count) id v other w (hand v.pieces (v.passes + w.passes) (v.drawn ++ w.drawn) (v.misses + w.misses)) (hand [] 0 [] 0)
   joins id v other w part s k at apart there =
       let b = hand v.pieces (v.passes + w.passes) (v.drawn ++ w.drawn) (v.misses + w.misses) in

@@ -6,7 +6,7 @@ ghost use Rattle.claim_board.specs.Rule.{Leaves};
 ghost use Rattle.claim_board.specs.declared.rule.Slot.TheVariants.{Piece};
 
 use crate::draw::{Board, Pass};
-use crate::rule::{Hand, HandOver, Slot, StandForBoth};
+use crate::rule::{HandOver, PassState, Slot, StandForBoth};
 use atomic_table::Seat;
 
 impl<P: Drop> Board<P> {
@@ -28,7 +28,7 @@ impl<P: Drop> Board<P> {
     }
 
     // Merges another pass into one seat.
-    fn gather(&self, all: &mut Seat<Slot<P>, Hand<P>>, pass: Pass<P>)
+    fn gather(&self, all: &mut Seat<Slot<P>, PassState<P>>, pass: Pass<P>)
         requires all { (all.old.table_id ≡ self.now.table.shared.table_id)
             × (0 < all.old.me.0.passes) }
         requires pass { IsPassOf self.now pass }
@@ -44,7 +44,7 @@ impl<P: Drop> Board<P> {
     }
 
     // Closes the board with a seat into which all passes were merged.
-    fn give_back(self, all: Seat<Slot<P>, Hand<P>>) -> Vec<P>
+    fn give_back(self, all: Seat<Slot<P>, PassState<P>>) -> Vec<P>
         requires all { (all.table_id ≡ self.table.shared.table_id)
             × (all.me.0.passes ≡ count_of_passes self) }
         ensures { Leaves (pieces_of self) all.me.0 result.items }

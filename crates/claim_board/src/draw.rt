@@ -2,14 +2,14 @@
 ghost use Rattle.std.specs.Prelude.{◌≡◌, ◌↔◌, ◌+◌, ◌<◌, ◌≤◌, [], ◌∷◌, ◌++◌, length, slice_get, Some, IsTrue, IsNone, IfSome, IfNone};
 ghost use Rattle.std.specs.List.{All};
 
-use crate::rule::{About, Draw, EachOnce, Hand, Slot};
+use crate::rule::{About, Draw, EachOnce, PassState, Slot};
 use atomic_table::{Seat, Table};
 use std::alloc::Global;
 
 /// The unclaimed pieces, and the word that counts the claims. Worker threads share a board by `&`.
 #[derive(Drop)]
 pub struct Board<P> {
-    pub(crate) table: Table<Slot<P>, Hand<P>, About<P>, EachOnce, Global>,
+    pub(crate) table: Table<Slot<P>, PassState<P>, About<P>, EachOnce, Global>,
     ghost one_word: { table.shared.table_id.words ≡ 1 },
     ghost slots: { table.shared.table_id.slots ≡ length table.shared.key.pieces.value.items + 1 },
 }
@@ -17,7 +17,7 @@ pub struct Board<P> {
 /// The right to claim from one board. Each worker has a pass of its own.
 #[derive(Drop)]
 pub struct Pass<P> {
-    pub(crate) seat: Seat<Slot<P>, Hand<P>>,
+    pub(crate) seat: Seat<Slot<P>, PassState<P>>,
     /// The pass found that no piece was left, and takes no more steps.
     pub(crate) is_spent: bool,
 }

@@ -6,7 +6,7 @@ ghost use Rattle.claim_board.specs.Passes.{pieces_of, count_of_passes, IsNewPass
 ghost use Rattle.claim_board.specs.declared.rule.Slot.TheVariants.{Piece, Kept};
 
 use crate::draw::{Board, Pass};
-use crate::rule::{About, CutOne, Hand, Slot};
+use crate::rule::{About, CutOne, PassState, Slot};
 use atomic_table::{Seat, Table};
 use std::snapshot::Snapshot;
 
@@ -87,7 +87,7 @@ fn take_back<P: Drop>(mut slots: Vec<Slot<P>>, about: &About<P>) -> Vec<P>
 // Splits the first seat, which represents all passes, into single passes.
 fn deal<P: Drop>(
     board: &Board<P>,
-    mut seat: Seat<Slot<P>, Hand<P>>,
+    mut seat: Seat<Slot<P>, PassState<P>>,
     passes: usize,
     dealt: &mut Vec<Pass<P>>,
 )

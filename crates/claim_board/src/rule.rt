@@ -19,7 +19,7 @@ pub(crate) enum Slot<P> {
 }
 
 /// The state of one pass, or of several merged passes. It is for the proofs only: no value of it is made.
-pub(crate) struct Hand<P> {
+pub(crate) struct PassState<P> {
     pub(crate) pieces: LinkedList<P>,
     pub(crate) passes: usize,
     pub(crate) drawn: LinkedList<u64>,
@@ -41,7 +41,7 @@ pub(crate) struct About<P> {
 /// The claimed numbers are those below the word, each exactly once.
 pub(crate) struct EachOnce;
 
-impl<P> TableRule<Slot<P>, Hand<P>, About<P>> for EachOnce {
+impl<P> TableRule<Slot<P>, PassState<P>, About<P>> for EachOnce {
     ghost holds = { λ about s. Keeps about.pieces.value.items
         (Kept about.list.value) about.passes s };
 
@@ -51,14 +51,14 @@ impl<P> TableRule<Slot<P>, Hand<P>, About<P>> for EachOnce {
 /// A claim increments the word.
 pub(crate) struct Draw;
 
-impl<P> Play<Slot<P>, Hand<P>> for Draw {
+impl<P> Play<Slot<P>, PassState<P>> for Draw {
     ghost then = { λ step before number after. Draws before number after };
 }
 
 /// Splits one pass from a merged state.
 pub(crate) struct CutOne;
 
-impl<P> Split<Hand<P>> for CutOne {
+impl<P> Split<PassState<P>> for CutOne {
     ghost left = { λ v. hand v.pieces (v.passes - 1) v.drawn v.misses };
 
     ghost right = { λ v. hand v.pieces 1 [] 0 };
@@ -67,7 +67,7 @@ impl<P> Split<Hand<P>> for CutOne {
 /// Moves the whole state of a pass to a seat that holds no slot.
 pub(crate) struct HandOver;
 
-impl<P> Split<Hand<P>> for HandOver {
+impl<P> Split<PassState<P>> for HandOver {
     ghost left = { λ v. hand [] 0 [] 0 };
 
     ghost right = { λ v. v };
@@ -76,7 +76,7 @@ impl<P> Split<Hand<P>> for HandOver {
 /// Merges two passes into one state.
 pub(crate) struct StandForBoth;
 
-impl<P> Join<Hand<P>> for StandForBoth {
+impl<P> Join<PassState<P>> for StandForBoth {
     ghost both = { λ v w. hand v.pieces (v.passes + w.passes)
         (v.drawn ++ w.drawn) (v.misses + w.misses) };
 

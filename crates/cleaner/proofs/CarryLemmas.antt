@@ -29,9 +29,9 @@ free_alone (c ∷ cs) e =
 
 -- a start that is no base is a free frame
 free_or_base : (c : Content) → is_start c ≡ true → is_base c ≡ false → c ≡ Free
-free_or_base (FullLeaf spelling low base) e f = absurd (cc)
+free_or_base (FullLeaf encoding low base) e f = absurd (cc)
 free_or_base (DeltaLeaf run) e f = absurd (cc)
-free_or_base (FullIndex spelling low base) e f = absurd (cc)
+free_or_base (FullIndex encoding low base) e f = absurd (cc)
 free_or_base (DeltaIndex run) e f = absurd (cc)
 free_or_base Free e f = refl
 

@@ -30,10 +30,10 @@ use Rattle.recovery.proofs.KeptPages.{KeepEach, first_is, later_are, in-order, b
 use Rattle.recovery.proofs.ScanLemmas.{left-following, AreRead, read-none, read-more, read-all, read-broken, IsFrame}
 use Rattle.recovery.proofs.TextLemmas.{turned}
 use Rattle.cleaner.specs.Chosen.{image_in, some_frames, page_in, pages_in, held}
-use Rattle.cleaner.specs.CleanText.{carried, clean_text}
+use Rattle.cleaner.specs.CleanText.{carried, clean_frames}
 
-abbrev spelled : List Frame → List (List ℕ)
-spelled fs = map (λ (f : Frame). bytes_of f) fs
+abbrev encoded : List Frame → List (List ℕ)
+encoded fs = map (λ (f : Frame). bytes_of f) fs
 
 -- ---- by segment
 
@@ -47,18 +47,18 @@ module _ (g : Format) where
   page_by false n k e = ap (λ (c : Bool). flat_map (image_in g) (cond c (some_frames k.frames.items) [])) e
 
 module _ (g : Format) (good : first_bad_field g.settings ≡ None) (limit n : ℕ) (below : n < limit) where
-  none_by : (b : Bool) → cond b (spelled []) [] ≡ spelled []
+  none_by : (b : Bool) → cond b (encoded []) [] ≡ encoded []
   none_by true = refl
   none_by false = refl
 
   -- below the limit, the retained frames of a page in a segment are those that are copied
-  carried_by : (b : Bool) (f : Found) (fs : List Found) → nat_eq f.segment n ≡ b → cond b (spelled (wanted_of (Before limit) (f ∷ fs))) [] ≡ spelled (carried n (f ∷ fs))
+  carried_by : (b : Bool) (f : Found) (fs : List Found) → nat_eq f.segment n ≡ b → cond b (encoded (wanted_of (Before limit) (f ∷ fs))) [] ≡ encoded (carried n (f ∷ fs))
   carried_by true f fs e =
       let wanted : nat_lt f.segment limit ≡ true = ap (λ (m : ℕ). nat_lt m limit) (eqb-true f.segment n e) ∙ lt-ltb n limit below in
-      ap (λ (c : Bool). spelled (cond (c && is_base f.frame.content) (frames_in (f ∷ fs)) [])) (wanted ∙ sym e)
-  carried_by false f fs e = ap (λ (c : Bool). spelled (cond (c && is_base f.frame.content) (frames_in (f ∷ fs)) [])) (sym e)
+      ap (λ (c : Bool). encoded (cond (c && is_base f.frame.content) (frames_in (f ∷ fs)) [])) (wanted ∙ sym e)
+  carried_by false f fs e = ap (λ (c : Bool). encoded (cond (c && is_base f.frame.content) (frames_in (f ∷ fs)) [])) (sym e)
 
-  page_of : (k : Kept) (fs : List Found) → IsKept (Before limit) k fs → image_in g k.frames.items ≡ spelled (wanted_of (Before limit) fs) → flat_map (image_in g) (page_in n k) ≡ spelled (carried n fs)
+  page_of : (k : Kept) (fs : List Found) → IsKept (Before limit) k fs → image_in g k.frames.items ≡ encoded (wanted_of (Before limit) fs) → flat_map (image_in g) (page_in n k) ≡ encoded (carried n fs)
   page_of k [] h image = page_by g (nat_eq n k.segment) n k refl ∙ ap (λ (fs : List (List ℕ)). cond (nat_eq n k.segment) fs []) image ∙ none_by (nat_eq n k.segment)
   page_of k (f ∷ fs) h image =
       let same : nat_eq n k.segment ≡ nat_eq f.segment n = ap (λ (m : ℕ). nat_eq n m) h.segment ∙ turned (nat_eq f.segment n) f.segment n refl in
@@ -68,26 +68,26 @@ module _ (g : Format) (good : first_bad_field g.settings ≡ None) (limit n : �
     abbrev carried_of : ℕ → List Frame
     carried_of pid = carried n (live_frames pid found)
 
-    page_text : (k : Kept) (pid : ℕ) → IsKept (Before limit) k (live_frames pid found) → flat_map (image_in g) (page_in n k) ≡ spelled (carried_of pid)
+    page_text : (k : Kept) (pid : ℕ) → IsKept (Before limit) k (live_frames pid found) → flat_map (image_in g) (page_in n k) ≡ encoded (carried_of pid)
     page_text k pid h =
         page_of k (live_frames pid found) h
         (ap (λ (bs : List ℕ). image_in g bs) h.frames
-        ∙ ap spelled (bytes-frames g good (wanted_of (Before limit) (live_frames pid found)) (wanted-within g (Before limit) (live_frames pid found) (live_frames-within g pid found within))))
+        ∙ ap encoded (bytes-frames g good (wanted_of (Before limit) (live_frames pid found)) (wanted-within g (Before limit) (live_frames pid found) (live_frames-within g pid found within))))
 
-    kept_text : (es : List (ℕ × Kept)) → AreRisingPids (keys_of es) → KeepEach (Before limit) found es → flat_map (image_in g) (pages_in n es) ≡ spelled (flat_map carried_of (keys_of es))
+    kept_text : (es : List (ℕ × Kept)) → AreRisingPids (keys_of es) → KeepEach (Before limit) found es → flat_map (image_in g) (pages_in n es) ≡ encoded (flat_map carried_of (keys_of es))
     kept_text [] r h = refl
     kept_text ((k, v) ∷ es) r h =
         flat_map-append (image_in g) (page_in n v) (pages_in n es)
         ∙ ap (λ (i : List (List ℕ)). i ++ flat_map (image_in g) (pages_in n es)) (page_text v k (first_is (Before limit) found k v es h))
-        ∙ ap (λ (i : List (List ℕ)). spelled (carried_of k) ++ i) (kept_text es r.1 (later_are (Before limit) found k v es r h))
+        ∙ ap (λ (i : List (List ℕ)). encoded (carried_of k) ++ i) (kept_text es r.1 (later_are (Before limit) found k v es r h))
         ∙ sym (map-append (λ (f : Frame). bytes_of f) (carried_of k) (flat_map carried_of (keys_of es)))
 
 -- the pages in a segment below the limit are those that a clean of that segment carries on
 pub kept-text : (g : Format) (limit n : ℕ) (pages : Gathering) (found : List Found) → first_bad_field g.settings ≡ None → n < limit → IsStrictlySortedBy nat_cmp (keys_of pages.by_pid.entries) → AreGathered g (Before limit) pages found
-    → flat_map (image_in g) (pages_in n pages.by_pid.entries) ≡ spelled (clean_text n found)
+    → flat_map (image_in g) (pages_in n pages.by_pid.entries) ≡ encoded (clean_frames n found)
 kept-text g limit n pages found good below sorted h =
     let order = in-order (Before limit) pages.by_pid found sorted h.live.kept in
-    kept_text g good limit n below found h.within pages.by_pid.entries order.rise order.each ∙ ap (λ (ns : List ℕ). spelled (flat_map (λ pid. carried n (live_frames pid found)) ns)) order.all
+    kept_text g good limit n below found h.within pages.by_pid.entries order.rise order.each ∙ ap (λ (ns : List ℕ). encoded (flat_map (λ pid. carried n (live_frames pid found)) ns)) order.all
 
 -- ---- one frame after the other
 
@@ -95,7 +95,7 @@ kept-text g limit n pages found good below sorted h =
 pub record IsImageUpto (g : Format) (bytes : Bytes) (image : List Bytes) (rest : Bytes) : Type 0 where
   pub frames : List Frame
   pub read : AreRead g is_at_tail (length bytes) bytes frames rest
-  pub of : image ≡ spelled frames
+  pub of : image ≡ encoded frames
 
 module _ (g : Format) (bytes : Bytes) where
   pub image-none : (image : List Bytes) → image ≡ [] → IsImageUpto g bytes image bytes
@@ -107,15 +107,15 @@ module _ (g : Format) (bytes : Bytes) where
     frames = h.frames ++ f.frame ∷ [];
     read = subst (λ (following : Bytes). AreRead g is_at_tail (length bytes) bytes (h.frames ++ f.frame ∷ []) following) (sym (left-following k.size rest) ∙ ap (λ (m : ℕ). take (length rest - m) (drop m rest)) (sym same))
         (read-more g is_at_tail (length bytes) bytes h.frames rest (drop k.size rest) f.frame h.read more f.read f.less);
-    of = put ∙ ap (λ (i : List Bytes). i ++ take size rest ∷ []) h.of ∙ ap (λ (b : Bytes). spelled h.frames ++ b ∷ []) (ap (λ (m : ℕ). take m rest) same ∙ f.bytes)
+    of = put ∙ ap (λ (i : List Bytes). i ++ take size rest ∷ []) h.of ∙ ap (λ (b : Bytes). encoded h.frames ++ b ∷ []) (ap (λ (m : ℕ). take m rest) same ∙ f.bytes)
         ∙ sym (map-append (λ (g : Frame). bytes_of g) h.frames (f.frame ∷ []));
   }
 
   pub image-all : (image : List Bytes) (rest : Bytes) → IsImageUpto g bytes image rest → is_at_tail rest ≡ true → image ≡ image_in g bytes
-  image-all image rest h e = h.of ∙ sym (ap (λ r. spelled (all_or_none r)) (read-all g is_at_tail (length bytes) bytes h.frames rest h.read e))
+  image-all image rest h e = h.of ∙ sym (ap (λ r. encoded (all_or_none r)) (read-all g is_at_tail (length bytes) bytes h.frames rest h.read e))
 
   pub image-other : (image none : List Bytes) (rest : Bytes) → IsImageUpto g bytes image rest → is_at_tail rest ≡ false → read_frame g rest ≡ None → none ≡ [] → none ≡ image_in g bytes
-  image-other image none rest h e other empty = empty ∙ sym (ap (λ r. spelled (all_or_none r)) (read-broken g is_at_tail (length bytes) bytes h.frames rest h.read e other))
+  image-other image none rest h e other empty = empty ∙ sym (ap (λ r. encoded (all_or_none r)) (read-broken g is_at_tail (length bytes) bytes h.frames rest h.read e other))
 
 -- ---- one page after the other
 

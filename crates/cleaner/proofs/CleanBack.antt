@@ -37,9 +37,9 @@ use Rattle.recovery.proofs.FlushBack.{IsCommitted, left, commit-done, same_store
 use Rattle.recovery.proofs.FlushLemmas.{frames-text}
 use Rattle.recovery.proofs.StoreLemmas.{Reads, StandsBy, store-stands, stands-for, ok-then}
 use Rattle.cleaner.specs.AfterClean.{slot_on_disk, clean_slot, after_carried, after_clean_of, after_clean}
-use Rattle.cleaner.specs.CleanText.{clean_text}
+use Rattle.cleaner.specs.CleanText.{clean_frames}
 use Rattle.recovery.proofs.FoundWithin.{log-within}
-use Rattle.cleaner.proofs.CleanLemmas.{pages-cleaned, sound-cleaned, all-clean_text}
+use Rattle.cleaner.proofs.CleanLemmas.{pages-cleaned, sound-cleaned, all-clean_frames}
 
 -- ---- segments of what is found
 
@@ -55,7 +55,7 @@ module _ (s : Settings) (file : List ℕ) (slot : Slot) (found : List Found) (re
   g = format_of s slot
 
   abbrev text : List Frame
-  text = clean_text slot.head found
+  text = clean_frames slot.head found
 
   -- the slot of a clean of this log
   abbrev next : Slot
@@ -70,7 +70,7 @@ module _ (s : Settings) (file : List ℕ) (slot : Slot) (found : List Found) (re
   pub room_for : is_full_for_clean s slot.head next.tail ≡ false → HasRoom g file slot text
   room_for free =
       let (block, good, whole) = store_settings-are file s reads.settings in
-      record { good = good; whole = whole; slot = reads.slot; within = all-clean_text (λ f. is_frame g f ≡ true) slot.head found within; free = room-for-clean s slot.head next.tail free }
+      record { good = good; whole = whole; slot = reads.slot; within = all-clean_frames (λ f. is_frame g f ≡ true) slot.head found within; free = room-for-clean s slot.head next.tail free }
 
   clean-reads : next.sequence ≤ greatest → next.tail ≤ greatest → is_full_for_clean s slot.head next.tail ≡ false → Reads s file' next (off.rest ++ found_in_text s slot.tail text)
   clean-reads number small free =
@@ -97,8 +97,8 @@ module _ (s : Settings) (file : List ℕ) (slot : Slot) (found : List Found) (re
       }
 
   -- the frames afterwards have the pages that there were
-  frames-after : frames_in (off.rest ++ found_in_text s slot.tail text) ≡ frames_in off.rest ++ clean_text slot.head (all_in slot.head off.here ++ off.rest)
-  frames-after = frames-text s slot.tail off.rest text ∙ ap (λ (fs : List Found). frames_in off.rest ++ clean_text slot.head fs) off.all
+  frames-after : frames_in (off.rest ++ found_in_text s slot.tail text) ≡ frames_in off.rest ++ clean_frames slot.head (all_in slot.head off.here ++ off.rest)
+  frames-after = frames-text s slot.tail off.rest text ∙ ap (λ (fs : List Found). frames_in off.rest ++ clean_frames slot.head fs) off.all
 
   later : AllByRecursion (λ f. nat_eq f.segment slot.head ≡ false) off.rest
   later = all_weaker (λ f. (suc slot.head ≤ f.segment) × (f.segment ≤ last_segment s slot.tail)) (λ f. nat_eq f.segment slot.head ≡ false) (λ f h. ne_eqb f.segment slot.head (λ e. let l = h.0 in omega (arith, l, e))) off.rest off.later
@@ -148,21 +148,21 @@ pub record IsClean (s : Settings) (st : Store) (file : List ℕ) (now : Store) (
   pub found : List Found
   pub read : log s file (slot_of st) ≡ Ok found
   pub sound : broken_in (frames_in found) ≡ None
-  pub done : IsCommitted (clean_slot s st file (clean_text st.head found)) (is_full_for_clean s st.head (clean_slot s st file (clean_text st.head found)).tail)
-      (store_after st.tree (clean_slot s st file (clean_text st.head found))) (committed s file (spans s st.tail (clean_text st.head found)) (clean_slot s st file (clean_text st.head found))) now bytes
+  pub done : IsCommitted (clean_slot s st file (clean_frames st.head found)) (is_full_for_clean s st.head (clean_slot s st file (clean_frames st.head found)).tail)
+      (store_after st.tree (clean_slot s st file (clean_frames st.head found))) (committed s file (spans s st.tail (clean_frames st.head found)) (clean_slot s st file (clean_frames st.head found))) now bytes
 
 pub clean-done : (s : Settings) (st : Store) (file : List ℕ) (now : Store) (bytes : List ℕ) → after_clean s st file ≡ left now bytes → IsClean s st file now bytes
 clean-done s st file now bytes e =
     let (some, goes) = some-segments (nat_eq st.head (last_segment s st.tail)) (and_then (log s file (slot_of st)) (after_clean_of s st file)) now bytes e in
     let (found, read, rest) = ok-then (log s file (slot_of st)) (after_clean_of s st file) (now, bytes) goes in
-    let (sound, done) = unless-ok (broken_in (frames_in found)) (clean_text st.head found) (after_carried s st file) (now, bytes) rest in
-    let t : Slot = clean_slot s st file (clean_text st.head found) in
+    let (sound, done) = unless-ok (broken_in (frames_in found)) (clean_frames st.head found) (after_carried s st file) (now, bytes) rest in
+    let t : Slot = clean_slot s st file (clean_frames st.head found) in
     record {
       more = eqb-false st.head (last_segment s st.tail) some;
       found = found;
       read = read;
       sound = sound;
-      done = commit-done t (is_full_for_clean s st.head t.tail) (store_after st.tree t) now (committed s file (spans s st.tail (clean_text st.head found)) t) bytes done;
+      done = commit-done t (is_full_for_clean s st.head t.tail) (store_after st.tree t) now (committed s file (spans s st.tail (clean_frames st.head found)) t) bytes done;
     }
 
 -- the store and its disk afterwards, where the disk encodes this tree
@@ -203,15 +203,15 @@ module _ (s : Settings) (file : List ℕ) (tree : Tree) (on_disk : Store) (by : 
     pub reads : Reads s file by.slot found
     pub more : by.slot.head < last_segment s by.slot.tail
     pub sound : broken_in (frames_in found) ≡ None
-    pub is_next : clean_slot s (store_after tree by.slot) file (clean_text by.slot.head found) ≡ next_of by.slot s (clean_text by.slot.head found)
-    pub done : IsCommitted (next_of by.slot s (clean_text by.slot.head found)) (is_full_for_clean s by.slot.head (next_of by.slot s (clean_text by.slot.head found)).tail) (store_after tree (next_of by.slot s (clean_text by.slot.head found)))
-        (committed s file (spans s by.slot.tail (clean_text by.slot.head found)) (next_of by.slot s (clean_text by.slot.head found))) now bytes
+    pub is_next : clean_slot s (store_after tree by.slot) file (clean_frames by.slot.head found) ≡ next_of by.slot s (clean_frames by.slot.head found)
+    pub done : IsCommitted (next_of by.slot s (clean_frames by.slot.head found)) (is_full_for_clean s by.slot.head (next_of by.slot s (clean_frames by.slot.head found)).tail) (store_after tree (next_of by.slot s (clean_frames by.slot.head found)))
+        (committed s file (spans s by.slot.tail (clean_frames by.slot.head found)) (next_of by.slot s (clean_frames by.slot.head found))) now bytes
 
   pub clean-of : (now : Store) (bytes : List ℕ) → after_clean s (store_after tree by.slot) file ≡ left now bytes → IsCleanOf now bytes
   clean-of now bytes e =
       let slot : Slot = by.slot in
       let c : IsClean s (store_after tree by.slot) file now bytes = clean-done s (store_after tree by.slot) file now bytes e in
-      let text : List Frame = clean_text slot.head c.found in
+      let text : List Frame = clean_frames slot.head c.found in
       let (block, good, whole) = store_settings-are file s by.reads.settings in
       let is_next : clean_slot s (store_after tree by.slot) file text ≡ next_of slot s text =
       ap (λ (u : Slot). (let t : Slot = record { sequence = suc slot.sequence; head = suc slot.head; tail = tail_after s slot.tail text; root = u.root; height = u.height; version = slot.version } in t)) (slot-same s file slot good by.reads.slot) in
@@ -231,11 +231,11 @@ module _ (s : Settings) (file : List ℕ) (tree : Tree) (on_disk : Store) (by : 
       let c : IsCleanOf now bytes = clean-of now bytes e in
       let found : List Found = c.found in
       let done = c.done in
-      let next : Slot = next_of slot s (clean_text slot.head found) in
+      let next : Slot = next_of slot s (clean_frames slot.head found) in
       let proper = subst (λ (fs : List Found). finding s (tree_by_log slot (frames_in fs)) ≡ None) c.same by.proper in
       let read = clean-read s file slot found c.reads c.more (log-within (format_of s slot) file slot.head slot.tail found c.reads.log) c.sound proper done.number done.tail done.room in
       let kept : tree_by_log slot (frames_in found) ≡ on_disk.tree = ap (λ (fs : List Found). tree_by_log slot (frames_in fs)) (sym c.same) ∙ ap (λ (x : Store). x.tree) (sym by.store) in
-      let file' : List ℕ = committed s file (spans s slot.tail (clean_text slot.head found)) next in
+      let file' : List ℕ = committed s file (spans s slot.tail (clean_frames slot.head found)) next in
       let stands : store_of_disk file' ≡ Ok (s, store_after on_disk.tree next) = read ∙ ap (λ (t : Tree). ended t next) kept in
       let whole : StandsStill s on_disk.tree (store_after tree next) file' = (stands, (store_after on_disk.tree next, stands, same_step next step)) in
       subst (λ (x : Store). StandsStill s on_disk.tree x bytes) (sym done.store) (subst (λ (x : List ℕ). StandsStill s on_disk.tree (store_after tree next) x) (sym done.disk) whole)
@@ -262,7 +262,7 @@ pub clean-kept : (s : Settings) (st now : Store) (file bytes : List ℕ) → IsS
 clean-kept s st now file bytes is h =
     let c : IsClean s st file now bytes = clean-done s st file now bytes h in
     let done = c.done in
-    let text : List Frame = clean_text st.head c.found in
+    let text : List Frame = clean_frames st.head c.found in
     let t : Slot = clean_slot s st file text in
     let g : Format = format_of s (slot_of st) in
     let was : IsSlot s st.sequence (slot_of st) = slot-is s st.sequence (slot_of st) is.slot in
@@ -271,7 +271,7 @@ clean-kept s st now file bytes is h =
     let from = (split-tail s st.head st.tail (omega arith) (omega arith)).from in
     let more : st.head < last_segment s st.tail = elim (cases_lt st.head (last_segment s st.tail)) [ inl k ↦ k | inr k ↦ absurd (c.more (omega (arith, from))) ] in
     let free = room-for-clean s st.head t.tail done.room in
-    let within = all-clean_text (λ f. is_frame g f ≡ true) st.head c.found (log-within g file st.head st.tail c.found c.read) in
+    let within = all-clean_frames (λ f. is_frame g f ≡ true) st.head c.found (log-within g file st.head st.tail c.found c.read) in
     subst (λ (x : Store). IsStore s x) (sym done.store) (record {
       good = is.good;
       proper = is.proper;

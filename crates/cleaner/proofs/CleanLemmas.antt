@@ -17,7 +17,7 @@ use Rattle.recovery.proofs.KeptLemmas.{starts, of_pid, of_pid-append, contents-f
 use Rattle.recovery.proofs.PagesLemmas.{pids, contents-append, among-pids_of, none_of, page_at-pages_of, rising-pages_of, none_broken, not_broken}
 use Rattle.recovery.proofs.PartLemmas.{from_last-all}
 use Rattle.recovery.proofs.TextLemmas.{turned, made-under}
-use Rattle.cleaner.specs.CleanText.{carried, clean_text}
+use Rattle.cleaner.specs.CleanText.{carried, clean_frames}
 use Rattle.cleaner.proofs.CarryLemmas.{same-state}
 
 -- ---- what was found of a pid
@@ -84,7 +84,7 @@ module _ (head : ℕ) (found : List Found) where
       sym (ap (λ (fs : List Found). map (λ (f : Frame). f.content) (carried head (from_last starts fs))) none)
 
   -- for each pid, the frames of a clean are those that are copied of it
-  pub text-of_pid : (pid : ℕ) → contents_of pid (clean_text head found) ≡ due pid
+  pub text-of_pid : (pid : ℕ) → contents_of pid (clean_frames head found) ≡ due pid
   text-of_pid pid =
       made-under carried_of due own_carried (pids_of (frames_in found)) pid (rising-with_numbers (pids (frames_in found)) [] tt)
       ∙ else_due (is_among pid (pids_of (frames_in found))) pid refl
@@ -94,7 +94,7 @@ module _ (head : ℕ) (found : List Found) where
 module _ (head : ℕ) (hs ts : List Found) (within : AllByRecursion (λ f. nat_eq f.segment head ≡ true) hs) (following : AllByRecursion (λ f. nat_eq f.segment head ≡ false) ts)
     (sound : broken_in (frames_in (hs ++ ts)) ≡ None) where
   abbrev after : List Frame
-  after = frames_in ts ++ clean_text head (hs ++ ts)
+  after = frames_in ts ++ clean_frames head (hs ++ ts)
 
   state_same : (pid : ℕ) → in_log after pid ≡ in_log (frames_in (hs ++ ts)) pid
   state_same pid =
@@ -102,8 +102,8 @@ module _ (head : ℕ) (hs ts : List Found) (within : AllByRecursion (λ f. nat_e
       let ts' : List Found = of_pid pid ts in
       let all : of_pid pid (hs ++ ts) ≡ hs' ++ ts' = of_pid-append pid hs ts in
       let whole : contents_of pid (frames_in (hs ++ ts)) ≡ contents_in (hs' ++ ts') = contents-found pid (hs ++ ts) ∙ ap contents_in all in
-      ap page_by_log (contents-append pid (frames_in ts) (clean_text head (hs ++ ts)))
-      ∙ ap (λ (cs : List Content). page_by_log (cs ++ contents_of pid (clean_text head (hs ++ ts)))) (contents-found pid ts)
+      ap page_by_log (contents-append pid (frames_in ts) (clean_frames head (hs ++ ts)))
+      ∙ ap (λ (cs : List Content). page_by_log (cs ++ contents_of pid (clean_frames head (hs ++ ts)))) (contents-found pid ts)
       ∙ ap (λ (cs : List Content). page_by_log (contents_in ts' ++ cs)) (text-of_pid head (hs ++ ts) pid)
       ∙ ap (λ (fs : List Found). page_by_log (contents_in ts' ++ map (λ (f : Frame). f.content) (carried head (from_last starts fs)))) all
       ∙ same-state head hs' ts'
@@ -134,5 +134,5 @@ all_in_text P head found (n ∷ ns) a =
     frames_all (f ∷ fs) a = (a.0, frames_all fs a.1)
 
 -- a property of each frame found holds for each frame of the clean
-pub all-clean_text : (P : Frame → Type 0) (head : ℕ) (found : List Found) → AllByRecursion (λ f. P f.frame) found → AllByRecursion P (clean_text head found)
-all-clean_text P head found a = all_in_text P head found (pids_of (frames_in found)) a
+pub all-clean_frames : (P : Frame → Type 0) (head : ℕ) (found : List Found) → AllByRecursion (λ f. P f.frame) found → AllByRecursion P (clean_frames head found)
+all-clean_frames P head found a = all_in_text P head found (pids_of (frames_in found)) a

@@ -10,14 +10,14 @@ use Rattle.mapping.specs.Tree.{Store}
 use Rattle.mapping.specs.Tree.Logged.{Upto}
 use Rattle.frame_codec.specs.Frame.{Frame}
 use Rattle.frame_codec.specs.Frame.Content.{FullLeaf}
-use Rattle.frame_codec.specs.declared.format.Spelling.TheVariants.{Whole}
+use Rattle.frame_codec.specs.declared.format.KeyEncoding.TheVariants.{Whole}
 use Rattle.flush_log.specs.Layout.{tail_after, found_in_text}
 use Rattle.flush_log.specs.Reading.{Found}
 use Rattle.flush_log.proofs.Literals.{pair, set, leaf, tree, frame, base_1, pages_of_row_4, sixteen, run, three}
 use Rattle.recovery.specs.StoreOfDisk.{store_of_disk}
 use Rattle.recovery.proofs.DiskForms.{disk}
 use Rattle.cleaner.specs.AfterClean.{after_clean}
-use Rattle.cleaner.specs.CleanText.{clean_text}
+use Rattle.cleaner.specs.CleanText.{clean_frames}
 
 -- ---- row 15: every third flush writes a base, so that none of the head segment's lives
 
@@ -26,7 +26,7 @@ abbrev found_in_all : ℕ → List (List Frame) → List Found
 found_in_all tail [] = []
 found_in_all tail (text ∷ texts) = found_in_text S tail text ++ found_in_all (tail_after S tail text) texts
 
-row_15 : clean_text 0 (found_in_all 16 ((frame 0 (FullLeaf Whole [] []) ∷ []) ∷ (three ++ (three ++ (three ++ (three ++ (three ++ (run ∷ run ∷ [])))))))) ≡ []
+row_15 : clean_frames 0 (found_in_all 16 ((frame 0 (FullLeaf Whole [] []) ∷ []) ∷ (three ++ (three ++ (three ++ (three ++ (three ++ (run ∷ run ∷ [])))))))) ≡ []
 row_15 = refl
 
 -- ---- row 16: bases live in the head segment, and a put is not flushed

@@ -19,7 +19,7 @@ use Rattle.recovery.specs.StoreOfDisk.{store_of_disk}
 use Rattle.recovery.proofs.ReadBytes.{same_then}
 use Rattle.cleaner.specs.AfterClean.{after_clean}
 use Rattle.cleaner.specs.Cleaned.{WouldClean, IsCleanFault, IsClean}
-use Rattle.cleaner.specs.CleanText.{clean_text}
+use Rattle.cleaner.specs.CleanText.{clean_frames}
 use Rattle.cleaner.proofs.CleanCrash.{clean-hidden}
 use Rattle.cleaner.proofs.PlanLemmas.{format_for, base_in, own_done}
 
@@ -30,7 +30,7 @@ module _ (s : Settings) (st : Store) (m : CommitPlan) (more : st.head ≢ last_s
 
   -- the bytes with its frames and its slot
   abbrev after : (file : List ℕ) → IsClean (format_for s st) (ends_of st) file m → List ℕ
-  after file p = file_with s (base_in (format_for s st) (ends_of st) file) (clean_text st.head p.0) file
+  after file p = file_with s (base_in (format_for s st) (ends_of st) file) (clean_frames st.head p.0) file
 
   pub plan-would : (file : List ℕ) → IsClean (format_for s st) (ends_of st) file m → WouldClean s st file
   plan-would file p = (store_after st.tree m.slot, after file p, own_done s file st m more p)
@@ -42,20 +42,20 @@ module _ (s : Settings) (st : Store) (m : CommitPlan) (more : st.head ≢ last_s
   done-as : (file seen : List ℕ) → (p : IsClean (format_for s st) (ends_of st) file m) → seen ≡ after file p → after_clean s st file ≡ Ok (store_after st.tree m.slot, seen)
   done-as file seen p wrote = own_done s file st m more p ∙ ap left (sym wrote)
 
-  pub plan-written : (old mid : View) (seen : List ℕ) → (p : IsClean (format_for s st) (ends_of st) old.seen m) → Same old mid → seen ≡ file_with s (base_in (format_for s st) (ends_of st) old.seen) (clean_text st.head p.0) mid.seen
+  pub plan-written : (old mid : View) (seen : List ℕ) → (p : IsClean (format_for s st) (ends_of st) old.seen m) → Same old mid → seen ≡ file_with s (base_in (format_for s st) (ends_of st) old.seen) (clean_frames st.head p.0) mid.seen
       → after_clean s st old.seen ≡ Ok (store_after st.tree m.slot, seen)
   plan-written old mid seen p same wrote =
-      done-as old.seen seen p (wrote ∙ ap (λ (f : List ℕ). file_with s (base_in (format_for s st) (ends_of st) old.seen) (clean_text st.head p.0) f) same.seen)
+      done-as old.seen seen p (wrote ∙ ap (λ (f : List ℕ). file_with s (base_in (format_for s st) (ends_of st) old.seen) (clean_frames st.head p.0) f) same.seen)
 
-  pub plan-leaves : (file c : List ℕ) → IsInStep s st file → (p : IsClean (format_for s st) (ends_of st) file m) → LeftOf s (base_in (format_for s st) (ends_of st) file) (clean_text st.head p.0) file c → CleanLeaves file c
+  pub plan-leaves : (file c : List ℕ) → IsInStep s st file → (p : IsClean (format_for s st) (ends_of st) file m) → LeftOf s (base_in (format_for s st) (ends_of st) file) (clean_frames st.head p.0) file c → CleanLeaves file c
   plan-leaves file c step p (inl hid) = inl (clean-hidden s st (store_after st.tree m.slot) p.0 file (after file p) c step (own_done s file st m more p) p.1.read hid)
   plan-leaves file c step p (inr whole) = inr (store_after st.tree m.slot, done-as file c p whole)
 
   pub plan-crashed : (old mid new : View) → IsInStep s st old.seen → (p : IsClean (format_for s st) (ends_of st) old.seen m) → Same old mid
-      → LeavesOnly mid new (LeftOf s (base_in (format_for s st) (ends_of st) old.seen) (clean_text st.head p.0) mid.seen) → LeavesOnly old new (CleanLeaves old.seen)
+      → LeavesOnly mid new (LeftOf s (base_in (format_for s st) (ends_of st) old.seen) (clean_frames st.head p.0) mid.seen) → LeavesOnly old new (CleanLeaves old.seen)
   plan-crashed old mid new step p same run =
       let base : Slot = base_in (format_for s st) (ends_of st) old.seen in
-      let text : List Frame = clean_text st.head p.0 in
+      let text : List Frame = clean_frames st.head p.0 in
       weaker old new (LeftOf s base text old.seen) (CleanLeaves old.seen) (λ c h. plan-leaves old.seen c step p h)
       (left_after old mid new (LeftOf s base text old.seen) same (subst (λ (f : List ℕ). LeavesOnly mid new (LeftOf s base text f)) same.seen run))
 

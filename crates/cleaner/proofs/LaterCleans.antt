@@ -15,7 +15,7 @@ use Rattle.recovery.specs.StoreOfDisk.{frames_in}
 use Rattle.recovery.proofs.KeptLemmas.{said, starts, of_pid, of_pid-append, contents-found}
 use Rattle.recovery.proofs.PagesLemmas.{pids, among-pids_of, none_of}
 use Rattle.recovery.proofs.PartLemmas.{from_last-none, from_last-following, from_last-more, from_last-all, from_last-some, none-append, any-map}
-use Rattle.cleaner.specs.CleanText.{carried, clean_text}
+use Rattle.cleaner.specs.CleanText.{carried, clean_frames}
 use Rattle.cleaner.proofs.CarryLemmas.{carried_none}
 use Rattle.cleaner.proofs.CleanLemmas.{nil_from, text-of_pid}
 use Rattle.cleaner.proofs.NumberLists.{same-made, flat-same}
@@ -78,7 +78,7 @@ module _ (head n : ℕ) (differ : nat_eq head n ≡ false) (hs ms ts : List Foun
 
 -- the frames found in the head segment, those after it, and those of a clean at the end
 module _ (head n : ℕ) (differ : nat_eq head n ≡ false) (hs ms ts : List Found)
-    (before : AllByRecursion (λ f. nat_eq f.segment n ≡ false) hs) (behind : AllByRecursion (λ f. nat_eq f.segment n ≡ false) ts) (text : frames_in ts ≡ clean_text head (hs ++ ms)) where
+    (before : AllByRecursion (λ f. nat_eq f.segment n ≡ false) hs) (behind : AllByRecursion (λ f. nat_eq f.segment n ≡ false) ts) (text : frames_in ts ≡ clean_frames head (hs ++ ms)) where
   same-carried : (pid : ℕ) → carried n (live_frames pid (ms ++ ts)) ≡ carried n (live_frames pid (hs ++ ms))
   same-carried pid =
       let hs' : List Found = of_pid pid hs in
@@ -100,8 +100,8 @@ module _ (head n : ℕ) (differ : nat_eq head n ≡ false) (hs ms ts : List Foun
       let none : of_pid pid found ≡ [] = nil_from (of_pid pid found) (sym (contents-found pid found) ∙ none_of (frames_in found) pid (sym (among-pids_of (frames_in found) pid) ∙ e)) in
       ap (λ (fs : List Found). carried n (from_last starts fs)) none
 
-  pub same-clean_text : clean_text n (ms ++ ts) ≡ clean_text n (hs ++ ms)
-  same-clean_text =
+  pub same-clean_frames : clean_frames n (ms ++ ts) ≡ clean_frames n (hs ++ ms)
+  same-clean_frames =
       let now : List Found = ms ++ ts in
       let old : List Found = hs ++ ms in
       flat-same (λ pid. carried n (live_frames pid now)) (λ pid. carried n (live_frames pid old)) (pids_of (frames_in now)) same-carried

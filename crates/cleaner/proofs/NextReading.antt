@@ -37,11 +37,11 @@ use Rattle.recovery.proofs.FlushLemmas.{frames-text}
 use Rattle.recovery.proofs.FoundWithin.{log-within}
 use Rattle.cleaner.specs.Chosen.{image_in}
 use Rattle.cleaner.specs.Cleaned.{IsCleanFault, IsRead, IsClean}
-use Rattle.cleaner.specs.CleanText.{clean_text}
+use Rattle.cleaner.specs.CleanText.{clean_frames}
 use Rattle.cleaner.specs.Live.{live_bytes}
 use Rattle.cleaner.specs.PagesRead.{PagesRead, pages_at, HasTexts, IsReading, IsReadingOf}
-use Rattle.cleaner.proofs.CleanLemmas.{sound-cleaned, all-clean_text}
-use Rattle.cleaner.proofs.LaterCleans.{same-clean_text}
+use Rattle.cleaner.proofs.CleanLemmas.{sound-cleaned, all-clean_frames}
+use Rattle.cleaner.proofs.LaterCleans.{same-clean_frames}
 use Rattle.cleaner.proofs.PlanLemmas.{base_in, log-left, more_in_use, clean-fault, wrong-read}
 
 -- what was read is read where the bytes of the segments are the same
@@ -115,7 +115,7 @@ module _ (g : Format) (e : LogEnds) (file : List ℕ) (good : first_bad_field g.
   found = p.0
 
   abbrev text : List Frame
-  text = clean_text e.head found
+  text = clean_frames e.head found
 
   -- its slot, and the bytes then
   abbrev u : Slot
@@ -135,7 +135,7 @@ module _ (g : Format) (e : LogEnds) (file : List ℕ) (good : first_bad_field g.
   now = off.rest ++ found_in_text s e.tail text
 
   within : AllByRecursion (λ f. is_frame g f ≡ true) text
-  within = all-clean_text (λ f. is_frame g f ≡ true) e.head found (log-within g file e.head e.tail found p.1.read)
+  within = all-clean_frames (λ f. is_frame g f ≡ true) e.head found (log-within g file e.head e.tail found p.1.read)
 
   fits : AreWithin s (length file) (spans s e.tail text)
   fits = within_more s (disk_size s) (length file) (spans s e.tail text) whole p.2.within
@@ -151,8 +151,8 @@ module _ (g : Format) (e : LogEnds) (file : List ℕ) (good : first_bad_field g.
       ∙ text-back g good file (suc e.head) e.tail off.rest text whole within (log-left g e good are more) off.read_on (omega (arith, free))
 
   -- the frames of a clean, from the frames found in two parts
-  text-parts : frames_in (found_in_text s e.tail text) ≡ clean_text e.head (all_in e.head off.here ++ off.rest)
-  text-parts = frames-text s e.tail [] text ∙ ap (λ (fs : List Found). clean_text e.head fs) off.all
+  text-parts : frames_in (found_in_text s e.tail text) ≡ clean_frames e.head (all_in e.head off.here ++ off.rest)
+  text-parts = frames-text s e.tail [] text ∙ ap (λ (fs : List Found). clean_frames e.head fs) off.all
 
   sound-now : broken_in (frames_in now) ≡ None
   sound-now =
@@ -167,13 +167,13 @@ module _ (g : Format) (e : LogEnds) (file : List ℕ) (good : first_bad_field g.
   some = let size = (are_sized s good).least_size in omega (arith, size)
 
   -- a clean of a later segment, before the last one, copies the same frames as before
-  same-text : (n : ℕ) → suc e.head ≤ n → n < last_segment s e.tail → clean_text n now ≡ clean_text n found
+  same-text : (n : ℕ) → suc e.head ≤ n → n < last_segment s e.tail → clean_frames n now ≡ clean_frames n found
   same-text n from below =
       let other : nat_eq e.head n ≡ false = ne_eqb e.head n (λ same. omega (arith, same, from)) in
       let far = are.after in
       let behind = all_weaker (λ f. last_segment s e.tail ≤ f.segment) (λ f. nat_eq f.segment n ≡ false) (λ f h. ne_eqb f.segment n (λ same. omega (arith, h, same, below))) (found_in_text s e.tail text) (text-in s e.tail text some (omega (arith, far))) in
-      same-clean_text e.head n other (all_in e.head off.here) off.rest (found_in_text s e.tail text) (head-beside e.head n off.here other) behind text-parts
-      ∙ ap (λ (fs : List Found). clean_text n fs) (sym off.all)
+      same-clean_frames e.head n other (all_in e.head off.here) off.rest (found_in_text s e.tail text) (head-beside e.head n off.here other) behind text-parts
+      ∙ ap (λ (fs : List Found). clean_frames n fs) (sym off.all)
 
   last-later : last_segment s e.tail ≤ last_segment s u.tail
   last-later =
@@ -195,21 +195,21 @@ module _ (g : Format) (e : LogEnds) (file : List ℕ) (good : first_bad_field g.
 pub reading-after : (g : Format) (e : LogEnds) (old mid new : View) (file : List ℕ) (m : CommitPlan) (t : Slot) (r : PagesRead) → first_bad_field g.settings ≡ None → AreEnds g.settings e → disk_size g.settings ≤ old.size → e.head ≢ last_segment g.settings e.tail
     → IsReadOf old file → (p : IsClean g e file m) → t ≡ m.slot → r.limit ≤ last_segment g.settings e.tail → HasTexts g (suc e.head) p.0 r
     → Kept old mid → Kept mid new → (IsTrue old.is_honest → mid.seen ≡ old.seen)
-    → (IsTrue mid.is_honest → new.seen ≡ file_with g.settings (base_in g e file) (clean_text e.head p.0) mid.seen)
+    → (IsTrue mid.is_honest → new.seen ≡ file_with g.settings (base_in g e file) (clean_frames e.head p.0) mid.seen)
     → IsReadingOf new g (ends_in t) r
 reading-after g e old mid new file m t r good are room more is p same below texts first second still wrote =
     let long = is.whole in
     let whole : HasSegments g.settings file = omega (arith, long, room) in
-    let after : List ℕ = file_with g.settings (base_in g e file) (clean_text e.head p.0) file in
+    let after : List ℕ = file_with g.settings (base_in g e file) (clean_frames e.head p.0) file in
     let size = after-long g e file good are whole more m p in
-    let reading : IsReading g (ends_in (next_slot g.settings (base_in g e file) (clean_text e.head p.0))) after r = next-reading g e file good are whole more m p r below texts in (
+    let reading : IsReading g (ends_in (next_slot g.settings (base_in g e file) (clean_frames e.head p.0))) after r = next-reading g e file good are whole more m p r below texts in (
       after,
       record {
         whole = size ∙ long ∙ sym (second.size ∙ first.size);
         honest = λ honest.
             let before : IsTrue mid.is_honest = subst IsTrue second.honest honest in
             let first_honest : IsTrue old.is_honest = subst IsTrue first.honest before in
-            sym (wrote before ∙ ap (λ (f : List ℕ). file_with g.settings (base_in g e file) (clean_text e.head p.0) f) (still first_honest ∙ sym (is.honest first_honest)));
+            sym (wrote before ∙ ap (λ (f : List ℕ). file_with g.settings (base_in g e file) (clean_frames e.head p.0) f) (still first_honest ∙ sym (is.honest first_honest)));
       },
       subst (λ (u : Slot). IsReading g (ends_in u) after r) (sym (same ∙ p.2.slot)) reading,
     )

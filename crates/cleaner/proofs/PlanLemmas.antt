@@ -38,8 +38,8 @@ use Rattle.recovery.specs.StoreOfDisk.{unless_found, frames_in}
 use Rattle.recovery.proofs.FoundWithin.{log-within}
 use Rattle.cleaner.specs.AfterClean.{slot_on_disk, clean_slot, after_carried, after_clean_of, after_clean}
 use Rattle.cleaner.specs.Cleaned.{IsCleanFault, IsRefused, IsRead, cleaned_slot, IsClean}
-use Rattle.cleaner.specs.CleanText.{clean_text}
-use Rattle.cleaner.proofs.CleanLemmas.{all-clean_text}
+use Rattle.cleaner.specs.CleanText.{clean_frames}
+use Rattle.cleaner.proofs.CleanLemmas.{all-clean_frames}
 
 abbrev left : Store → List ℕ → Result (Store × List ℕ) Fault
 left now bytes = Ok (now, bytes)
@@ -93,12 +93,12 @@ module _ (s : Settings) (file : List ℕ) where
   of_log : (st : Store) (r : Result (List Found) Fault) → st.head ≢ last_segment s st.tail → log s file (slot_of st) ≡ r → after_clean s st file ≡ and_then r (after_clean_of s st file)
   of_log st r more e = of_more st more ∙ ap (λ (q : Result (List Found) Fault). and_then q (after_clean_of s st file)) e
 
-  of_pages : (st : Store) (found : List Found) (o : Option Finding) → broken_in (frames_in found) ≡ o → after_clean_of s st file found ≡ and_then (unless_found o (clean_text st.head found)) (after_carried s st file)
-  of_pages st found o e = ap (λ (p : Option Finding). and_then (unless_found p (clean_text st.head found)) (after_carried s st file)) e
+  of_pages : (st : Store) (found : List Found) (o : Option Finding) → broken_in (frames_in found) ≡ o → after_clean_of s st file found ≡ and_then (unless_found o (clean_frames st.head found)) (after_carried s st file)
+  of_pages st found o e = ap (λ (p : Option Finding). and_then (unless_found p (clean_frames st.head found)) (after_carried s st file)) e
 
   -- frames that are read and fit together are copied
   pub carried-on : (st : Store) (found : List Found) → st.head ≢ last_segment s st.tail → log s file (slot_of st) ≡ Ok found → broken_in (frames_in found) ≡ None
-      → after_clean s st file ≡ after_carried s st file (clean_text st.head found)
+      → after_clean s st file ≡ after_carried s st file (clean_frames st.head found)
   carried-on st found more read sound = of_log st (Ok found) more read ∙ of_pages st found None sound
 
   -- one segment alone is in use
@@ -156,11 +156,11 @@ images-by g u text images same are = subst (λ (v : Version). AreImages (record 
 module _ (s : Settings) (file : List ℕ) (st : Store) where
   -- of a log of this format with these ends
   abbrev RefusedBy : Fault → Format → LogEnds → Type 0
-  RefusedBy fault f u = u.head ≢ last_segment f.settings u.tail → (found : List Found) → IsRead f u file found → next_tail f.settings (base_in f u file) (clean_text u.head found) ≡ Err fault → after_clean f.settings st file ≡ Err fault
+  RefusedBy fault f u = u.head ≢ last_segment f.settings u.tail → (found : List Found) → IsRead f u file found → next_tail f.settings (base_in f u file) (clean_frames u.head found) ≡ Err fault → after_clean f.settings st file ≡ Err fault
 
   pub own_refused : (fault : Fault) → RefusedBy fault (format_for s st) (ends_of st)
   own_refused fault more found r h =
-      let text : List Frame = clean_text st.head found in
+      let text : List Frame = clean_frames st.head found in
       let u : Slot = clean_slot s st file text in
       carried-on s file st found more r.read r.sound
       ∙ commit-refused u (is_full_for_clean s st.head u.tail) (store_after st.tree u) (committed s file (spans s st.tail text) u) fault
@@ -168,11 +168,11 @@ module _ (s : Settings) (file : List ℕ) (st : Store) where
 
   -- the effect of a plan on the store and on these bytes
   abbrev DoneBy : CommitPlan → Format → LogEnds → Type 0
-  DoneBy m f u = u.head ≢ last_segment f.settings u.tail → (p : IsClean f u file m) → after_clean f.settings st file ≡ left (store_after st.tree m.slot) (file_with f.settings (base_in f u file) (clean_text u.head p.0) file)
+  DoneBy m f u = u.head ≢ last_segment f.settings u.tail → (p : IsClean f u file m) → after_clean f.settings st file ≡ left (store_after st.tree m.slot) (file_with f.settings (base_in f u file) (clean_frames u.head p.0) file)
 
   pub own_done : (m : CommitPlan) → DoneBy m (format_for s st) (ends_of st)
   own_done m more (found, r, p) =
-      let text : List Frame = clean_text st.head found in
+      let text : List Frame = clean_frames st.head found in
       let u : Slot = clean_slot s st file text in
       carried-on s file st found more r.read r.sound
       ∙ commit-admitted u (is_full_for_clean s st.head u.tail) (store_after st.tree u) (committed s file (spans s st.tail text) u) p.unspent (clean-is-flush s st.head u.tail ∙ p.free)
@@ -187,12 +187,12 @@ module _ (g : Format) (e : LogEnds) (file : List ℕ) (st : Store) (ends : ends_
 
 -- the plan of the commit that adds the frames to this slot's log is that of the clean, and the properties of the frames found still hold for them
 pub as-clean : (g : Format) (e : LogEnds) (u : Slot) (file : List ℕ) (found : List Found) (Such : List Found → Type 0) (old new : ℕ) (r : Result CommitPlan Fault) → e.head ≢ last_segment g.settings e.tail → IsRead g e file found → Such found → u ≡ base_in g e file
-    → MatchResult r (λ m. IsPlanned g.settings u (clean_text e.head found) m) (λ fault. (fault ≡ NoMemory) ⊎ (next_tail g.settings u (clean_text e.head found) ≡ Err fault))
+    → MatchResult r (λ m. IsPlanned g.settings u (clean_frames e.head found) m) (λ fault. (fault ≡ NoMemory) ⊎ (next_tail g.settings u (clean_frames e.head found) ≡ Err fault))
     → MatchResult r (λ m. (p : IsClean g e file m) × Such p.0) (λ fault. IsRefused g e file fault ⊎ IsLate old new fault)
-as-clean g e u file found Such old new (Ok m) more read such is p = ((found, read, subst (λ (v : Slot). IsPlanned g.settings v (clean_text e.head found) m) is p), such)
+as-clean g e u file found Such old new (Ok m) more read such is p = ((found, read, subst (λ (v : Slot). IsPlanned g.settings v (clean_frames e.head found) m) is p), such)
 as-clean g e u file found Such old new (Err fault) more read such is (inl memory) = inr (inl memory)
 as-clean g e u file found Such old new (Err fault) more read such is (inr full) =
-    inl (λ st same version. tail-refused g e file st same version fault more found read (subst (λ (v : Slot). next_tail g.settings v (clean_text e.head found) ≡ Err fault) is full))
+    inl (λ st same version. tail-refused g e file st same version fault more found read (subst (λ (v : Slot). next_tail g.settings v (clean_frames e.head found) ≡ Err fault) is full))
 
 -- ---- what was read
 
@@ -209,9 +209,9 @@ module _ (g : Format) (e : LogEnds) (file : List ℕ) (more : e.head ≢ last_se
   wrong-read found read fault (inr (f, broken, fits)) = inl (pages-refused g file e more found fault f read broken fits)
 
 -- the images of the chosen frames
-pub chosen-images : (g : Format) (e : LogEnds) (file : List ℕ) (found : List Found) (images : List (List (List ℕ))) → IsRead g e file found → AreOfText images (clean_text e.head found) → (images ≡ []) ⊎ (1 ≤ length (clean_text e.head found)) → AreImages g (clean_text e.head found) images
+pub chosen-images : (g : Format) (e : LogEnds) (file : List ℕ) (found : List Found) (images : List (List (List ℕ))) → IsRead g e file found → AreOfText images (clean_frames e.head found) → (images ≡ []) ⊎ (1 ≤ length (clean_frames e.head found)) → AreImages g (clean_frames e.head found) images
 chosen-images g e file found images is of some =
-    record { of = of; some = some; within = all-clean_text (λ f. is_frame g f ≡ true) e.head found (log-within g file e.head e.tail found is.read) }
+    record { of = of; some = some; within = all-clean_frames (λ f. is_frame g f ≡ true) e.head found (log-within g file e.head e.tail found is.read) }
 
 -- a plan of a log is one of a store with that log, and of the bytes that the disk shows
 pub plan-of : (g : Format) (e : LogEnds) (file seen : List ℕ) (m : CommitPlan) (st : Store) → ends_of st ≡ e → st.version ≡ g.version → file ≡ seen → IsClean g e file m → IsClean (format_for g.settings st) (ends_of st) seen m

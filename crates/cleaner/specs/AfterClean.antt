@@ -15,7 +15,7 @@ use Rattle.flush_log.specs.Segments.{last_segment}
 use Rattle.flush_log.specs.Slot.{Slot, slot_size, slot_place, slot_in}
 use Rattle.recovery.specs.LogPages.{broken_in}
 use Rattle.recovery.specs.StoreOfDisk.{unless_found, frames_in}
-use Rattle.cleaner.specs.CleanText.{clean_text}
+use Rattle.cleaner.specs.CleanText.{clean_frames}
 
 -- the slot for this sequence number on the disk
 abbrev pub slot_on_disk : ℕ → Bytes → Slot
@@ -44,7 +44,7 @@ after_carried s st file text =
 
 -- the result of a clean of these frames, or a fault if they do not fit together
 abbrev pub after_clean_of : Settings → Store → Bytes → List Found → Result (Store × Bytes) Fault
-after_clean_of s st file found = and_then (unless_found (broken_in (frames_in found)) (clean_text st.head found)) (after_carried s st file)
+after_clean_of s st file found = and_then (unless_found (broken_in (frames_in found)) (clean_frames st.head found)) (after_carried s st file)
 
 -- the result of a clean: the store and the bytes of its disk afterwards, or the fault; first of all, the log must not be in one segment
 abbrev pub after_clean : Settings → Store → Bytes → Result (Store × Bytes) Fault
@@ -57,7 +57,7 @@ after_clean s st file =
 
 -- the calls by which a clean of the frames found is written: none if a fault was found
 abbrev pub clean_calls_by : Settings → Store → Bytes → Result (List Found) Fault → List Call
-clean_calls_by s st file (Ok found) = calls_for s file (clean_commit s st file (clean_text st.head found))
+clean_calls_by s st file (Ok found) = calls_for s file (clean_commit s st file (clean_frames st.head found))
 clean_calls_by s st file (Err fault) = []
 
 -- the calls of a clean

@@ -13,5 +13,5 @@ carried head [] = []
 carried head (f ∷ fs) = if nat_eq f.segment head && is_base f.frame.content then frames_in (f ∷ fs) else []
 
 -- the frames of a clean, from the frames between head and tail
-abbrev pub clean_text : ℕ → List Found → List Frame
-clean_text head found = flat_map (λ pid. carried head (live_frames pid found)) (pids_of (frames_in found))
+abbrev pub clean_frames : ℕ → List Found → List Frame
+clean_frames head found = flat_map (λ pid. carried head (live_frames pid found)) (pids_of (frames_in found))

@@ -16,7 +16,7 @@ use Rattle.recovery.specs.LogPages.{broken_in}
 use Rattle.recovery.specs.Recovered.{IsLate}
 use Rattle.recovery.specs.StoreOfDisk.{frames_in}
 use Rattle.cleaner.specs.AfterClean.{slot_on_disk, after_clean}
-use Rattle.cleaner.specs.CleanText.{clean_text}
+use Rattle.cleaner.specs.CleanText.{clean_frames}
 
 -- ---- the call
 
@@ -53,4 +53,4 @@ cleaned_slot version e on_disk = record {
 -- it is the commit of a clean of the log, which does not fail
 abbrev pub IsClean : Format → LogEnds → Bytes → CommitPlan → Type 0
 IsClean g e file m = (found : List Found) × IsRead g e file found
-    × IsPlanned g.settings (cleaned_slot g.version e (slot_on_disk e.sequence file)) (clean_text e.head found) m
+    × IsPlanned g.settings (cleaned_slot g.version e (slot_on_disk e.sequence file)) (clean_frames e.head found) m

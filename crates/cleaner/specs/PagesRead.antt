@@ -11,7 +11,7 @@ use Rattle.flush_log.specs.declared.slot.LogEnds.{LogEnds}
 use Rattle.recovery.specs.Recovered.{IsReadOf}
 use Rattle.cleaner.specs.Chosen.{image_in}
 use Rattle.cleaner.specs.Cleaned.{IsRead}
-use Rattle.cleaner.specs.CleanText.{clean_text}
+use Rattle.cleaner.specs.CleanText.{clean_frames}
 
 -- a reading: the limit below which segments can be cleaned with it, the number of live bytes in the log when it was read, and for each of these
 -- segments in which pages live, the encoded frames of each such page
@@ -30,7 +30,7 @@ pages_at n r = or_none (lookup (nat_eq n) r.pages)
 
 -- for each segment from this one up to the limit, the retained frames are those that a clean of that segment copies
 abbrev pub HasTexts : Format → ℕ → List Found → PagesRead → Type 0
-HasTexts g from found r = (n : ℕ) → from ≤ n → n < r.limit → flat_map (image_in g) (pages_at n r) ≡ map bytes_of (clean_text n found)
+HasTexts g from found r = (n : ℕ) → from ≤ n → n < r.limit → flat_map (image_in g) (pages_at n r) ≡ map bytes_of (clean_frames n found)
 
 -- a reading of the log with these ends in these bytes, or an equivalent one: the log has no fault, the last segment is at or beyond the limit, and
 -- the reading has the frames that the cleans of the segments below the limit copy

@@ -4,7 +4,7 @@ ghost use Rattle.keys.specs.Bytes.{Bytes};
 ghost use Rattle.keys.specs.Limits.{first_bad_field};
 ghost use Rattle.mapping.specs.Tree.{Store};
 ghost use Rattle.flush_log.specs.AfterFlush.{store_after};
-ghost use Rattle.flush_log.specs.Disk.{IsSettled, Kept, Same, LeavesOnly, OnlyRead, CountsNoOther};
+ghost use Rattle.flush_log.specs.Disk.{IsSynced, Kept, Same, LeavesOnly, OnlyRead, CountsNoOther};
 ghost use Rattle.flush_log.specs.Ends.{ends_of, ends_in, AreEnds};
 ghost use Rattle.flush_log.specs.Overlay.{AgreeAt};
 ghost use Rattle.flush_log.specs.Segments.{segments_begin, disk_size, last_segment};
@@ -178,11 +178,11 @@ pub fn clean_by<D: Disk>(
         st.version ≡ format.now.version →
         IfOk result (λ now. after_clean format.now.settings st (D.view disk.old).seen
         ≡ Ok (store_after st.tree now, (D.view disk.new).seen)) }
-    ensures settled { IsTrue (D.view disk.old).is_honest →
-        OnOk result (IsSettled (D.view disk.new)) }
+    ensures is_synced { IsTrue (D.view disk.old).is_honest →
+        OnOk result (IsSynced (D.view disk.new)) }
     // On a synced disk that encodes a store with which this one is in step, a crash leaves that store, or everything
     // that the clean writes.
-    ensures crash { IsSettled (D.view disk.old) → (st : Store) → ends_of st ≡ ends.now →
+    ensures crash { IsSynced (D.view disk.old) → (st : Store) → ends_of st ≡ ends.now →
         st.version ≡ format.now.version → IsInStep format.now.settings st (D.view disk.old).seen →
         LeavesOnly (D.view disk.old) (D.view disk.new)
         (λ c. (store_of_disk c ≡ store_of_disk (D.view disk.old).seen)
@@ -245,11 +245,11 @@ pub fn clean<D: Disk>(
         st.version ≡ format.now.version →
         IfOk result (λ now. after_clean format.now.settings st (D.view disk.old).seen
         ≡ Ok (store_after st.tree now, (D.view disk.new).seen)) }
-    ensures settled { IsTrue (D.view disk.old).is_honest →
-        OnOk result (IsSettled (D.view disk.new)) }
+    ensures is_synced { IsTrue (D.view disk.old).is_honest →
+        OnOk result (IsSynced (D.view disk.new)) }
     // On a synced disk that encodes a store with which this one is in step, a crash leaves that store, or everything
     // that the clean writes.
-    ensures crash { IsSettled (D.view disk.old) → (st : Store) → ends_of st ≡ ends.now →
+    ensures crash { IsSynced (D.view disk.old) → (st : Store) → ends_of st ≡ ends.now →
         st.version ≡ format.now.version → IsInStep format.now.settings st (D.view disk.old).seen →
         LeavesOnly (D.view disk.old) (D.view disk.new)
         (λ c. (store_of_disk c ≡ store_of_disk (D.view disk.old).seen)

@@ -10,7 +10,7 @@ ghost use Rattle.flush_log.specs.Reading.{Found, log};
 ghost use Rattle.recovery.specs.InStep.{AreInStep, IsInStep, IsStore, IsStoreOf};
 ghost use Rattle.recovery.specs.StoreOfDisk.{store_of_disk};
 ghost use Rattle.cleaner.specs.AfterClean.{after_clean, clean_calls};
-ghost use Rattle.cleaner.specs.CleanText.{clean_text};
+ghost use Rattle.cleaner.specs.CleanText.{clean_frames};
 
 /// A clean keeps the store: the disk afterwards encodes the same tree as before, with the head, tail and number that
 /// the clean commits. The tree in memory is unchanged, including what was not flushed, and in step with the disk, and
@@ -36,7 +36,7 @@ pub fn a_crash_in_a_clean_leaves_the_store_before_or_after()
     ensures hidden { (s : Settings) (st now : Store) (found : List Found) (file bytes c : Bytes) →
         IsInStep s st file →
         after_clean s st file ≡ Ok (now, bytes) → log s file (slot_of st) ≡ Ok found →
-        IsUncommitted s (suc st.sequence) (spans s st.tail (clean_text st.head found)) file c →
+        IsUncommitted s (suc st.sequence) (spans s st.tail (clean_frames st.head found)) file c →
         store_of_disk c ≡ store_of_disk file }
     ensures calls { (s : Settings) (st now : Store) (file bytes c : Bytes) → IsInStep s st file →
         after_clean s st file ≡ Ok (now, bytes) → LeftDuring (clean_calls s st file) file c →

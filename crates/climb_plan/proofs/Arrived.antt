@@ -22,10 +22,10 @@ use Rattle.mapping.proofs.LevelLemmas.{same_pids}
 use Rattle.mapping.proofs.PidLemmas.{all_among}
 use Rattle.mapping.proofs.TableOfLevels.{by_pid-unique, holds_among}
 use Rattle.page_runs.specs.NetRun.{net_run}
-use Rattle.page_runs.specs.Worked.{Worked}
-use Rattle.split_plan.specs.WorkedLevel.{worked_leaves, placed_of}
+use Rattle.page_runs.specs.Updated.{Updated}
+use Rattle.split_plan.specs.UpdatedLevel.{updated_leaves, placed_of}
 use Rattle.split_plan.proofs.PidLemmas.{distinct_renewed}
-use Rattle.split_plan.proofs.RunLemmas.{names-worked_leaves}
+use Rattle.split_plan.proofs.RunLemmas.{names-updated_leaves}
 use Rattle.climb_plan.specs.Changing.{AreHome}
 use Rattle.climb_plan.specs.Climb.{Climbed, kept_levels}
 use Rattle.climb_plan.specs.HasClimbed.{HasClimbed, HasShrunk}
@@ -73,8 +73,8 @@ some_by (Some q) p e = refl
 
 module _ {A : Type 0} (s : Settings) (t : Tree) (cs : List (Command A)) (fan : 1 < s.fan) (proper : IsProper s t) where
   -- the leaves after their parts of the net run
-  abbrev pub leaves_after : List (Worked (List ℕ))
-  leaves_after = worked_leaves s (net_run (contents t) cs) (levels_of t).level
+  abbrev pub leaves_after : List (Updated (List ℕ))
+  leaves_after = updated_leaves s (net_run (contents t) cs) (levels_of t).level
 
   abbrev whole : Climbed (List ℕ)
   whole = batch_climb s t cs
@@ -89,7 +89,7 @@ module _ {A : Type 0} (s : Settings) (t : Tree) (cs : List (Command A)) (fan : 1
   planned_pids = all_pids planned.level planned.above
 
   pub keep_names : names (placed_of leaves_after) ≡ names (levels_of t).level
-  keep_names = names-worked_leaves s (net_run (contents t) cs) (levels_of t).level
+  keep_names = names-updated_leaves s (net_run (contents t) cs) (levels_of t).level
 
   pub whole_distinct : Distinct whole_pids
   whole_distinct =

@@ -15,14 +15,14 @@ use Rattle.mapping.specs.Table.{Mapping, pids_in_use, place_of, with_rooms, fres
 use Rattle.mapping.specs.TreeInMemory.{TreeInMemory}
 use Rattle.mapping.proofs.LevelLemmas.{same_pids}
 use Rattle.mapping.proofs.PidLemmas.{all_among}
-use Rattle.mapping.proofs.TileLemmas.{Names, next_low-same, next_low-parents}
+use Rattle.mapping.proofs.TileLemmas.{Separators, next_low-same, next_low-parents}
 use Rattle.page_runs.specs.TermWork.{index_made}
-use Rattle.page_runs.specs.Worked.{Worked}
+use Rattle.page_runs.specs.Updated.{Updated}
 use Rattle.split_plan.specs.Change.{changes, family_changes, fresh_of, all_fresh}
 use Rattle.split_plan.specs.Terms.{terms}
-use Rattle.split_plan.specs.WorkedLevel.{worked_parents, placed_of}
-use Rattle.split_plan.proofs.RunLemmas.{names-worked_parents}
-use Rattle.split_plan.proofs.WorkedLemmas.{tiled-worked_parents}
+use Rattle.split_plan.specs.UpdatedLevel.{updated_parents, placed_of}
+use Rattle.split_plan.proofs.RunLemmas.{names-updated_parents}
+use Rattle.split_plan.proofs.WorkedLemmas.{tiled-updated_parents}
 use Rattle.climb_plan.specs.Changing.{SeenPage, page_seen, AreHome, Changing, changing_families, parents_of, changing_groups, changing_changes}
 use Rattle.climb_plan.specs.Climb.{families}
 use Rattle.climb_plan.specs.Installing.{parent_held, AreParentsHome}
@@ -62,7 +62,7 @@ module _ {V W : Type 0} where
   top_pid-same ps qs (up ∷ ups) e = refl
 
   pub stacked-same : (ps : List (Placed V)) (qs : List (Placed W)) (ups : List (List (Placed ℕ))) → names ps ≡ names qs → Stacked qs ups → Stacked ps ups
-  stacked-same ps qs [] e h = sym (length-map ps name) ∙ ap (λ (ns : Names). length ns) e ∙ length-map qs name ∙ h
+  stacked-same ps qs [] e h = sym (length-map ps name) ∙ ap (λ (ns : Separators). length ns) e ∙ length-map qs name ∙ h
   stacked-same ps qs (up ∷ ups) e h = (record { linked = h.0.linked ∙ sym e; headed = h.0.headed; tiled = h.0.tiled }, h.1)
 
 -- ---- parents of families that change
@@ -96,7 +96,7 @@ module _ (before after : Mapping PageOfKind) where
 
 -- ---- the next level
 
-module _ {V : Type 0} (s : Settings) (of : Page V → PageOfKind) (t : TreeInMemory) (xs : List SeenPage) (ws : List (Worked V)) (ps : List (Placed ℕ)) (ups : List (List (Placed ℕ))) (used : List ℕ) (i : ℕ) where
+module _ {V : Type 0} (s : Settings) (of : Page V → PageOfKind) (t : TreeInMemory) (xs : List SeenPage) (ws : List (Updated V)) (ps : List (Placed ℕ)) (ups : List (List (Placed ℕ))) (used : List ℕ) (i : ℕ) where
   -- the parents of families that change
   abbrev pub changing_here : List (Changing V)
   changing_here = changing_families ps ws
@@ -113,12 +113,12 @@ module _ {V : Type 0} (s : Settings) (of : Page V → PageOfKind) (t : TreeInMem
   abbrev pub runs_here : List (List (List ℕ × Option ℕ))
   runs_here = map terms (family_changes s used i (families ps ws))
 
-  abbrev pub parents_here : List (Worked ℕ)
-  parents_here = worked_parents s ps runs_here
+  abbrev pub parents_here : List (Updated ℕ)
+  parents_here = updated_parents s ps runs_here
 
   -- those that are seen
   abbrev pub seen_here : List SeenPage
-  seen_here = map (page_seen Index) (worked_parents s (parents_of changing_here) (map terms (changing_changes s used i changing_here)))
+  seen_here = map (page_seen Index) (updated_parents s (parents_of changing_here) (map terms (changing_changes s used i changing_here)))
 
   module _ (z : 0 < s.fan) (h : IsLevel of t xs (level_of ws (ps ∷ ups) used i)) where
     abbrev rooms : Mapping PageOfKind
@@ -230,7 +230,7 @@ module _ {V : Type 0} (s : Settings) (of : Page V → PageOfKind) (t : TreeInMem
     taken_here = term_parents taken (map terms (changing_changes s used i changing_here)) (runs_fit ∙ length-map changing_here (λ (c : Changing V). c.parent) ∙ sym (length-map changing_here (λ (c : Changing V). c.parent.pid)))
 
     -- they become what the plan says
-    pub made_here : map (λ e. index_made s (parent_held rooms e)) termed_here ≡ worked_parents s (parents_of changing_here) (map terms (changing_changes s used i changing_here))
+    pub made_here : map (λ e. index_made s (parent_held rooms e)) termed_here ≡ updated_parents s (parents_of changing_here) (map terms (changing_changes s used i changing_here))
     made_here =
         let runs : List (List (List ℕ × Option ℕ)) = map terms (changing_changes s used i changing_here) in
         ap (λ (ns : List ℕ). map (λ e. index_made s (parent_held rooms e)) (runs_by_parent ns runs)) (sym (pids-parents_of changing_here)) ∙ termed_made rooms s (parents_of changing_here) runs termed_in_rooms runs_fit
@@ -247,12 +247,12 @@ module _ {V : Type 0} (s : Settings) (of : Page V → PageOfKind) (t : TreeInMem
     pub next_level : IsLevel Index tree_here seen_here (level_of parents_here ups used (i + length (all_fresh (family_changes s used i (families ps ws)))))
     next_level =
         let up : IsParentOf (placed_of ws) ps = h.stacked.0 in
-        let named : names (placed_of parents_here) ≡ names ps = names-worked_parents s ps runs_here in
+        let named : names (placed_of parents_here) ≡ names ps = names-updated_parents s ps runs_here in
         let same : pids (placed_of parents_here) ≡ pids ps = same_pids (placed_of parents_here) ps named in
         let all : all_pids ps ups ≡ all_pids (placed_of parents_here) ups = ap (λ (ns : List ℕ). ns ++ flat_map pids ups) (sym same) in
         record {
           seen = seen_after_runs s Index tree_here.table (all_terms_given s used i ps ws) (distinct_parts (pids ps) (flat_map pids ups) upper_distinct).0 parents_home parents_away;
-          tiled = tiled-worked_parents s ps runs_here None up.tiled (parents_termed s used i ps ws z up.linked up.headed h.tiled).0;
+          tiled = tiled-updated_parents s ps runs_here None up.tiled (parents_termed s used i ps ws z up.linked up.headed h.tiled).0;
           first = next_low-same (placed_of parents_here) ps None named ∙ sym (next_low-parents ps (placed_of ws) up.linked up.headed) ∙ h.first;
           stacked = stacked-same (placed_of parents_here) ps ups named h.stacked.1;
           home = home_above t.table tree_here.table ups above_stay h.home.1;

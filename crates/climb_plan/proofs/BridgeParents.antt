@@ -9,8 +9,8 @@ use Rattle.mapping.specs.Levels.{Placed, pids}
 use Rattle.mapping.specs.Proper.{Distinct}
 use Rattle.mapping.specs.Table.{Mapping, at_home, page_of}
 use Rattle.page_runs.specs.TermWork.{TermHeld, index_made}
-use Rattle.page_runs.specs.Worked.{Worked, worked}
-use Rattle.split_plan.specs.WorkedLevel.{worked_parents}
+use Rattle.page_runs.specs.Updated.{Updated, updated}
+use Rattle.split_plan.specs.UpdatedLevel.{updated_parents}
 use Rattle.climb_plan.specs.Changing.{AreHome}
 use Rattle.climb_plan.proofs.ParentRuns.AreRunsOf.{termed, untermed}
 use Rattle.climb_plan.specs.Installing.{page_or_none, parent_held, IsIndexAt, AreParentsHome}
@@ -30,12 +30,12 @@ module _ (t : Mapping PageOfKind) where
   page_there q run e = ap (λ (o : Option PageOfKind). (let h : TermHeld = record { page = page_or_none o; pid = q.pid; terms = run } in h)) e
 
   -- they become what the plan says
-  pub termed_made : (s : Settings) (qs : List (Placed ℕ)) (runs : List (List (List ℕ × Option ℕ))) → AreHome Index t qs → length runs ≡ length qs → map (λ e. index_made s (parent_held t e)) (runs_by_parent (pids qs) runs) ≡ worked_parents s qs runs
+  pub termed_made : (s : Settings) (qs : List (Placed ℕ)) (runs : List (List (List ℕ × Option ℕ))) → AreHome Index t qs → length runs ≡ length qs → map (λ e. index_made s (parent_held t e)) (runs_by_parent (pids qs) runs) ≡ updated_parents s qs runs
   termed_made s [] runs h e = refl
   termed_made s (q ∷ qs) [] h e = absurd (omega arith)
   termed_made s (q ∷ qs) (run ∷ runs) h e =
       ap (λ (x : TermHeld). index_made s x ∷ map (λ e. index_made s (parent_held t e)) (runs_by_parent (pids qs) runs)) (page_there q run (ap at_home h.0))
-      ∙ ap (λ (ws : List (Worked ℕ)). worked s q run ∷ ws) (termed_made s qs runs h.1 (ap pred e))
+      ∙ ap (λ (ws : List (Updated ℕ)). updated s q run ∷ ws) (termed_made s qs runs h.1 (ap pred e))
 
   -- and their inputs are the original pages
   pub termed_held : (qs : List (Placed ℕ)) (runs : List (List (List ℕ × Option ℕ))) → AreHome Index t qs → length runs ≡ length qs → map {B = ℕ × PageOfKind} (λ x. (x.pid, x.page)) (map (parent_held t) (runs_by_parent (pids qs) runs)) ≡ map {B = ℕ × PageOfKind} (λ q. (q.pid, Index q.page)) qs

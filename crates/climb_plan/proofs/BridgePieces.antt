@@ -10,13 +10,13 @@ use Rattle.index_page.specs.Page.{Page, PageOfKind, bare, first_key, IsLeaf, IsI
 use Rattle.index_page.specs.Page.PageOfKind.{Leaf, Index}
 use Rattle.mapping.specs.Levels.{Placed, joined, pids}
 use Rattle.mapping.specs.FreshPids.{unused}
-use Rattle.page_runs.specs.Worked.{Worked}
+use Rattle.page_runs.specs.Updated.{Updated}
 use Rattle.split_plan.specs.Change.{fresh_pages, replacements, is_rewritten, remade, changes, fresh_of}
 use Rattle.split_plan.proofs.ChangeLemmas.{remade_by, length-fresh_pages}
 use Rattle.split_plan.specs.Cut.{cut}
 use Rattle.split_plan.proofs.CutLemmas.{cut_some}
 use Rattle.split_plan.specs.Pieces.{pages_from, joined_pages, pages_made, group_made}
-use Rattle.split_plan.specs.WorkedLevel.{placed_of}
+use Rattle.split_plan.specs.UpdatedLevel.{placed_of}
 use Rattle.climb_plan.specs.Changing.{page_seen}
 use Rattle.climb_plan.specs.Level.{IsKind, remade_of}
 use Rattle.climb_plan.specs.Rewriting.{Remade, cut_group, HaveSome, with_numbers, numbers}
@@ -63,19 +63,19 @@ made_of ms ps ns = record { members = ms; pieces = ps; fresh = ns }
 
 module _ {V : Type 0} where
   -- groups that are rewritten
-  abbrev pub AreRewritten : List (List (Worked V)) → Type 0
+  abbrev pub AreRewritten : List (List (Updated V)) → Type 0
   AreRewritten gs = AllByRecursion (λ g. is_rewritten g ≡ true) gs
 
   -- the pages of a group's members
-  abbrev pub pages_of_group : List (Worked V) → List (Page V)
+  abbrev pub pages_of_group : List (Updated V) → List (Page V)
   pages_of_group g = bare_pages (placed_of g)
 
 module _ {V : Type 0} (of : Page V → PageOfKind) where
-  pub pages-page_seen : (g : List (Worked V)) → map (λ x. x.page) (map (page_seen of) g) ≡ map of (pages_of_group g)
+  pub pages-page_seen : (g : List (Updated V)) → map (λ x. x.page) (map (page_seen of) g) ≡ map of (pages_of_group g)
   pages-page_seen [] = refl
   pages-page_seen (w ∷ ws) = ap (λ (ps : List PageOfKind). of w.placed.page ∷ ps) (pages-page_seen ws)
 
-  pids-page_seen : (g : List (Worked V)) → map (λ x. x.pid) (map (page_seen of) g) ≡ map (λ w. w.placed.pid) g
+  pids-page_seen : (g : List (Updated V)) → map (λ x. x.pid) (map (page_seen of) g) ≡ map (λ w. w.placed.pid) g
   pids-page_seen [] = refl
   pids-page_seen (w ∷ ws) = ap (λ (ns : List ℕ). w.placed.pid ∷ ns) (pids-page_seen ws)
 
@@ -92,13 +92,13 @@ module _ {V : Type 0} (of : Page V → PageOfKind) where
 
   module _ (kind : IsKind of) (s : Settings) where
     -- the pieces of a group that is rewritten
-    abbrev pub pieces_made : List (Worked V) → List PageOfKind
+    abbrev pub pieces_made : List (Updated V) → List PageOfKind
     pieces_made g = group_made s (map (λ x. x.page) (map (page_seen of) g))
 
-    pieces_by : (b : Bool) (used : List ℕ) (i : ℕ) (w : Worked V) (ws : List (Worked V)) → b ≡ true → pieces_made (w ∷ ws) ≡ kept_pages (remade_by b s used i w ws)
+    pieces_by : (b : Bool) (used : List ℕ) (i : ℕ) (w : Updated V) (ws : List (Updated V)) → b ≡ true → pieces_made (w ∷ ws) ≡ kept_pages (remade_by b s used i w ws)
     pieces_by false used i w ws e = absurd (cc)
     pieces_by true used i w ws e =
-        let g : List (Worked V) = w ∷ ws in
+        let g : List (Updated V) = w ∷ ws in
         let bs : List (List (List ℕ × V)) = cut s.fan (joined (placed_of g)) in
         ap (λ (ps : List PageOfKind). group_made s (of w.placed.page ∷ ps)) (pages-page_seen ws)
         ∙ kind.made s w.placed.page (pages_of_group ws)
@@ -107,23 +107,23 @@ module _ {V : Type 0} (of : Page V → PageOfKind) where
         ∙ of_bare_pages (replacements used i w.placed bs)
 
     -- they are the pages that replace the group
-    pub pieces_here : (used : List ℕ) (i : ℕ) (g : List (Worked V)) → is_rewritten g ≡ true → pieces_made g ≡ kept_pages (remade s used i g)
+    pub pieces_here : (used : List ℕ) (i : ℕ) (g : List (Updated V)) → is_rewritten g ≡ true → pieces_made g ≡ kept_pages (remade s used i g)
     pieces_here used i [] e = absurd (cc)
     pieces_here used i (w ∷ ws) e = pieces_by (is_rewritten (w ∷ ws)) used i w ws e
 
-    count_here : (used : List ℕ) (i : ℕ) (g : List (Worked V)) → is_rewritten g ≡ true → length (pieces_made g) - 1 ≡ length (drop 1 (remade s used i g))
+    count_here : (used : List ℕ) (i : ℕ) (g : List (Updated V)) → is_rewritten g ≡ true → length (pieces_made g) - 1 ≡ length (drop 1 (remade s used i g))
     count_here used i g e = one_less (remade s used i g) (pieces_made g) (pieces_here used i g e)
 
-    fresh_by : (b : Bool) (used : List ℕ) (i : ℕ) (w : Worked V) (ws : List (Worked V)) → b ≡ true → map (unused used) (range_with_len i (length (drop 1 (remade_by b s used i w ws)))) ≡ pids (drop 1 (remade_by b s used i w ws))
+    fresh_by : (b : Bool) (used : List ℕ) (i : ℕ) (w : Updated V) (ws : List (Updated V)) → b ≡ true → map (unused used) (range_with_len i (length (drop 1 (remade_by b s used i w ws)))) ≡ pids (drop 1 (remade_by b s used i w ws))
     fresh_by false used i w ws e = absurd (cc)
     fresh_by true used i w ws e = sym (pids-replacements used i w.placed (cut s.fan (joined (placed_of (w ∷ ws)))))
 
-    fresh_here : (used : List ℕ) (i : ℕ) (g : List (Worked V)) → is_rewritten g ≡ true → map (unused used) (range_with_len i (length (drop 1 (remade s used i g)))) ≡ pids (drop 1 (remade s used i g))
+    fresh_here : (used : List ℕ) (i : ℕ) (g : List (Updated V)) → is_rewritten g ≡ true → map (unused used) (range_with_len i (length (drop 1 (remade s used i g)))) ≡ pids (drop 1 (remade s used i g))
     fresh_here used i [] e = absurd (cc)
     fresh_here used i (w ∷ ws) e = fresh_by (is_rewritten (w ∷ ws)) used i w ws e
 
     -- groups, cut and with numbers for their new pieces, are the changes
-    pub with_numbers-page_seen : (used : List ℕ) (i : ℕ) (gs : List (List (Worked V))) → AreRewritten gs → with_numbers used i (map (cut_group s) (shown_groups of gs)) ≡ map (remade_of of) (changes s used i gs)
+    pub with_numbers-page_seen : (used : List ℕ) (i : ℕ) (gs : List (List (Updated V))) → AreRewritten gs → with_numbers used i (map (cut_group s) (shown_groups of gs)) ≡ map (remade_of of) (changes s used i gs)
     with_numbers-page_seen used i [] h = refl
     with_numbers-page_seen used i (g ∷ gs) h =
         let n : ℕ = length (pieces_made g) - 1 in
@@ -139,7 +139,7 @@ module _ {V : Type 0} (of : Page V → PageOfKind) where
         ∙ ap (λ (rs : List Remade). made_of (map (λ w. w.placed.pid) g) (kept_pages new) (pids (drop 1 new)) ∷ rs) (with_numbers-page_seen used (i + length (drop 1 new)) gs h.1)
 
     -- as many numbers are needed as there are new pieces
-    pub numbers-page_seen : (used : List ℕ) (i : ℕ) (gs : List (List (Worked V))) → AreRewritten gs → numbers (map (cut_group s) (shown_groups of gs)) ≡ length (fresh_of (changes s used i gs))
+    pub numbers-page_seen : (used : List ℕ) (i : ℕ) (gs : List (List (Updated V))) → AreRewritten gs → numbers (map (cut_group s) (shown_groups of gs)) ≡ length (fresh_of (changes s used i gs))
     numbers-page_seen used i [] h = refl
     numbers-page_seen used i (g ∷ gs) h =
         let here : List (Placed V) = drop 1 (remade s used i g) in
@@ -148,21 +148,21 @@ module _ {V : Type 0} (of : Page V → PageOfKind) where
         ∙ ap (λ (n : ℕ). length here + n) (numbers-page_seen used j gs h.1)
         ∙ sym (length-append here (fresh_of (changes s used j gs)))
 
-    some_by : (b : Bool) (w : Worked V) (ws : List (Worked V)) → b ≡ true → 0 < length (remade_by b s [] 0 w ws)
+    some_by : (b : Bool) (w : Updated V) (ws : List (Updated V)) → b ≡ true → 0 < length (remade_by b s [] 0 w ws)
     some_by false w ws e = absurd (cc)
     some_by true w ws e = let es : List (List ℕ × V) = joined (placed_of (w ∷ ws)) in some_replacement [] 0 w.placed (cut s.fan es) (cut_some s.fan es)
 
-    some_remade : (g : List (Worked V)) → is_rewritten g ≡ true → 0 < length (remade s [] 0 g)
+    some_remade : (g : List (Updated V)) → is_rewritten g ≡ true → 0 < length (remade s [] 0 g)
     some_remade [] e = absurd (cc)
     some_remade (w ∷ ws) e = some_by (is_rewritten (w ∷ ws)) w ws e
 
-    some_piece : (g : List (Worked V)) → is_rewritten g ≡ true → 0 < length (pieces_made g)
+    some_piece : (g : List (Updated V)) → is_rewritten g ≡ true → 0 < length (pieces_made g)
     some_piece g e =
         let count : length (pieces_made g) ≡ length (remade s [] 0 g) = ap (λ (ps : List PageOfKind). length ps) (pieces_here [] 0 g e) ∙ length-map (remade s [] 0 g) (λ (q : Placed V). of q.page) in
         subst (λ (n : ℕ). 0 < n) (sym count) (some_remade g e)
 
     -- each group has a piece
-    pub some-page_seen : (gs : List (List (Worked V))) → AreRewritten gs → HaveSome (map (cut_group s) (shown_groups of gs))
+    pub some-page_seen : (gs : List (List (Updated V))) → AreRewritten gs → HaveSome (map (cut_group s) (shown_groups of gs))
     some-page_seen [] h = tt
     some-page_seen (g ∷ gs) h = (some_piece g h.0, some-page_seen gs h.1)
 

@@ -8,11 +8,11 @@ use Rattle.index_page.specs.Page.PageOfKind.{Index}
 use Rattle.mapping.specs.Levels.{Placed, entries, name, names}
 use Rattle.mapping.specs.Table.{Mapping, at_home, page_of}
 use Rattle.mapping.specs.TreeInMemory.{TreeInMemory}
-use Rattle.mapping.proofs.TileLemmas.{Names, next_low-parents}
-use Rattle.page_runs.specs.Worked.{Worked, is_thin}
+use Rattle.mapping.proofs.TileLemmas.{Separators, next_low-parents}
+use Rattle.page_runs.specs.Updated.{Updated, is_thin}
 use Rattle.split_plan.specs.Groups.{Gathered, with_child, gathered, with_leading, groups}
 use Rattle.split_plan.specs.Change.{is_rewritten}
-use Rattle.split_plan.specs.WorkedLevel.{placed_of}
+use Rattle.split_plan.specs.UpdatedLevel.{placed_of}
 use Rattle.climb_plan.specs.Changing.{SeenPage, page_seen, same_page, AreSeen, AreHome, Changing, groups_to_rewrite, with_changing, changing_families, changing_groups}
 use Rattle.climb_plan.specs.Level.{group_counts, IsKind, IsLevel}
 use Rattle.climb_plan.specs.Rewriting.{seen_name, is_thin_seen, is_rewritten_seen, AreSeenIn, rewritten_groups, Rewriting, with_rewriting, rewriting_families, rewriting_counts, groups_of, IsLevelSeen}
@@ -67,27 +67,27 @@ module _ {V : Type 0} (of : Page V → PageOfKind) where
   -- ---- pages as they are seen
 
   -- the pages of a level that were seen are those of its pages as code has them
-  pub seen_in : (t : Mapping PageOfKind) {xs : List SeenPage} {ws : List (Worked V)} → AreSeen of t xs ws → AreSeenIn t xs (map (page_seen of) ws)
+  pub seen_in : (t : Mapping PageOfKind) {xs : List SeenPage} {ws : List (Updated V)} → AreSeen of t xs ws → AreSeenIn t xs (map (page_seen of) ws)
   seen_in t (AreSeen.none) = AreSeenIn.none
-  seen_in t (AreSeen.worked w e r) = AreSeenIn.worked (page_seen of w) (seen_in t r)
+  seen_in t (AreSeen.updated w e r) = AreSeenIn.updated (page_seen of w) (seen_in t r)
   seen_in t (AreSeen.at_home p e r) = AreSeenIn.at_home (page_seen of (same_page p)) refl refl (ap at_home e) (seen_in t r)
 
   -- ---- groups
 
   -- groups of pages as they are seen
-  abbrev pub shown_groups : List (List (Worked V)) → List (List SeenPage)
+  abbrev pub shown_groups : List (List (Updated V)) → List (List SeenPage)
   shown_groups gs = map (λ g. map (page_seen of) g) gs
 
-  pub rewritten_shown : (g : List (Worked V)) → is_rewritten_seen (map (page_seen of) g) ≡ is_rewritten g
+  pub rewritten_shown : (g : List (Updated V)) → is_rewritten_seen (map (page_seen of) g) ≡ is_rewritten g
   rewritten_shown [] = refl
   rewritten_shown (w ∷ []) = refl
   rewritten_shown (w ∷ v ∷ ws) = refl
 
   -- the same groups are rewritten
-  pub filter-page_seen : (gs : List (List (Worked V))) → filter is_rewritten_seen (shown_groups gs) ≡ shown_groups (filter is_rewritten gs)
-  filter-page_seen gs = filter-map (λ (g : List (Worked V)). map (page_seen of) g) is_rewritten_seen is_rewritten gs rewritten_shown
+  pub filter-page_seen : (gs : List (List (Updated V))) → filter is_rewritten_seen (shown_groups gs) ≡ shown_groups (filter is_rewritten gs)
+  filter-page_seen gs = filter-map (λ (g : List (Updated V)). map (page_seen of) g) is_rewritten_seen is_rewritten gs rewritten_shown
 
-  rewritten_groups-page_seen : (f : List (Worked V)) → rewritten_groups (map (page_seen of) f) ≡ shown_groups (groups_to_rewrite f)
+  rewritten_groups-page_seen : (f : List (Updated V)) → rewritten_groups (map (page_seen of) f) ≡ shown_groups (groups_to_rewrite f)
   rewritten_groups-page_seen f =
       ap (λ (gs : List (List SeenPage)). filter is_rewritten_seen gs) (groups-map (page_seen of) is_thin_seen f) ∙ filter-page_seen (groups is_thin f)
 
@@ -95,17 +95,17 @@ module _ {V : Type 0} (of : Page V → PageOfKind) where
   abbrev pub rewriting_of : Changing V → Rewriting
   rewriting_of c = record { parent = c.parent.pid; groups = shown_groups c.groups }
 
-  with_rewriting-page_seen : (gs : List (List (Worked V))) (p : Placed ℕ) (chs : List (Changing V)) → (let c : Changing V = record { parent = p; groups = gs } in with_rewriting p.pid (shown_groups gs) (map rewriting_of chs) ≡ map rewriting_of (with_changing gs c chs))
+  with_rewriting-page_seen : (gs : List (List (Updated V))) (p : Placed ℕ) (chs : List (Changing V)) → (let c : Changing V = record { parent = p; groups = gs } in with_rewriting p.pid (shown_groups gs) (map rewriting_of chs) ≡ map rewriting_of (with_changing gs c chs))
   with_rewriting-page_seen [] p chs = refl
   with_rewriting-page_seen (g ∷ gs) p chs = refl
 
   -- the parents with groups that are rewritten are those whose families change
-  pub rewriting_families-page_seen : (ps : List (Placed ℕ)) (ws : List (Worked V)) → rewriting_families ps (map (page_seen of) ws) ≡ map rewriting_of (changing_families ps ws)
+  pub rewriting_families-page_seen : (ps : List (Placed ℕ)) (ws : List (Updated V)) → rewriting_families ps (map (page_seen of) ws) ≡ map rewriting_of (changing_families ps ws)
   rewriting_families-page_seen [] ws = refl
   rewriting_families-page_seen (p ∷ ps) ws =
       let n : ℕ = length (entries p) in
-      let f : List (Worked V) = take n ws in
-      let more : List (Worked V) = drop n ws in
+      let f : List (Updated V) = take n ws in
+      let more : List (Updated V) = drop n ws in
       let all : List SeenPage = map (page_seen of) ws in
       ap (λ (g : List SeenPage). with_rewriting p.pid (rewritten_groups g) (rewriting_families ps (drop n all))) (take-map (page_seen of) n ws)
       ∙ ap (λ (g : List SeenPage). with_rewriting p.pid (rewritten_groups (map (page_seen of) f)) (rewriting_families ps g)) (drop-map (page_seen of) n ws)
@@ -117,34 +117,34 @@ module _ {V : Type 0} (of : Page V → PageOfKind) where
   counted_each [] = refl
   counted_each (c ∷ chs) =
       let pair : ℕ → ℕ × ℕ = λ n. (c.parent.pid, n) in
-      ap (λ (n : ℕ). pair n ∷ rewriting_counts (map rewriting_of chs)) (length-map c.groups (λ (g : List (Worked V)). map (page_seen of) g)) ∙ ap (λ (cs : List (ℕ × ℕ)). pair (length c.groups) ∷ cs) (counted_each chs)
+      ap (λ (n : ℕ). pair n ∷ rewriting_counts (map rewriting_of chs)) (length-map c.groups (λ (g : List (Updated V)). map (page_seen of) g)) ∙ ap (λ (cs : List (ℕ × ℕ)). pair (length c.groups) ∷ cs) (counted_each chs)
 
   -- each such parent has as many groups that are rewritten
-  pub rewriting_counts-page_seen : (ps : List (Placed ℕ)) (ws : List (Worked V)) → rewriting_counts (rewriting_families ps (map (page_seen of) ws)) ≡ group_counts (changing_families ps ws)
+  pub rewriting_counts-page_seen : (ps : List (Placed ℕ)) (ws : List (Updated V)) → rewriting_counts (rewriting_families ps (map (page_seen of) ws)) ≡ group_counts (changing_families ps ws)
   rewriting_counts-page_seen ps ws = ap (λ (rs : List Rewriting). rewriting_counts rs) (rewriting_families-page_seen ps ws) ∙ counted_each (changing_families ps ws)
 
   groups_each : (chs : List (Changing V)) → groups_of (map rewriting_of chs) ≡ shown_groups (changing_groups chs)
   groups_each [] = refl
   groups_each (c ∷ chs) =
-      ap (λ (gs : List (List SeenPage)). shown_groups c.groups ++ gs) (groups_each chs) ∙ sym (map-append (λ (g : List (Worked V)). map (page_seen of) g) c.groups (changing_groups chs))
+      ap (λ (gs : List (List SeenPage)). shown_groups c.groups ++ gs) (groups_each chs) ∙ sym (map-append (λ (g : List (Updated V)). map (page_seen of) g) c.groups (changing_groups chs))
 
   -- the groups that are rewritten are those of the families that change
-  pub groups-page_seen : (ps : List (Placed ℕ)) (ws : List (Worked V)) → groups_of (rewriting_families ps (map (page_seen of) ws)) ≡ shown_groups (changing_groups (changing_families ps ws))
+  pub groups-page_seen : (ps : List (Placed ℕ)) (ws : List (Updated V)) → groups_of (rewriting_families ps (map (page_seen of) ws)) ≡ shown_groups (changing_groups (changing_families ps ws))
   groups-page_seen ps ws = ap (λ (rs : List Rewriting). groups_of rs) (rewriting_families-page_seen ps ws) ∙ groups_each (changing_families ps ws)
 
   -- ---- levels
 
   module _ (kind : IsKind of) where
-    pub seen_name-page_seen : (w : Worked V) → seen_name (page_seen of w) ≡ name w.placed
+    pub seen_name-page_seen : (w : Updated V) → seen_name (page_seen of w) ≡ name w.placed
     seen_name-page_seen w = let pair : List ℕ → List ℕ × ℕ = λ k. (k, w.placed.pid) in ap pair (kind.low w.placed.page)
 
-    pub names-page_seen : (ws : List (Worked V)) → map seen_name (map (page_seen of) ws) ≡ names (placed_of ws)
+    pub names-page_seen : (ws : List (Updated V)) → map seen_name (map (page_seen of) ws) ≡ names (placed_of ws)
     names-page_seen [] = refl
     names-page_seen (w ∷ ws) =
-        ap (λ (n : List ℕ × ℕ). n ∷ map seen_name (map (page_seen of) ws)) (seen_name-page_seen w) ∙ ap (λ (ns : Names). name w.placed ∷ ns) (names-page_seen ws)
+        ap (λ (n : List ℕ × ℕ). n ∷ map seen_name (map (page_seen of) ws)) (seen_name-page_seen w) ∙ ap (λ (ns : Separators). name w.placed ∷ ns) (names-page_seen ws)
 
     -- a level in the course of a climb is one as code sees it
-    pub level_seen : (t : TreeInMemory) (xs : List SeenPage) (ws : List (Worked V)) (ps : List (Placed ℕ)) (ups : List (List (Placed ℕ))) (used : List ℕ) (i : ℕ) → IsLevel of t xs (level_of ws (ps ∷ ups) used i) → IsLevelSeen t (length ups) xs (map (page_seen of) ws) ps ups
+    pub level_seen : (t : TreeInMemory) (xs : List SeenPage) (ws : List (Updated V)) (ps : List (Placed ℕ)) (ups : List (List (Placed ℕ))) (used : List ℕ) (i : ℕ) → IsLevel of t xs (level_of ws (ps ∷ ups) used i) → IsLevelSeen t (length ups) xs (map (page_seen of) ws) ps ups
     level_seen t xs ws ps ups used i h = record {
       seen = seen_in t.table h.seen;
       linked = h.stacked.0.linked ∙ sym (names-page_seen ws);

@@ -6,9 +6,9 @@ use Rattle.std.proofs.lemmas.Grind.{flat_map-append}
 use Rattle.keys.specs.Lists.{flat}
 use Rattle.keys.specs.declared.settings.Settings.{Settings}
 use Rattle.mapping.specs.Levels.{Placed, entries}
-use Rattle.page_runs.specs.Worked.{Worked, is_thin}
+use Rattle.page_runs.specs.Updated.{Updated, is_thin}
 use Rattle.split_plan.specs.Groups.{groups}
-use Rattle.split_plan.specs.WorkedLevel.{placed_of}
+use Rattle.split_plan.specs.UpdatedLevel.{placed_of}
 use Rattle.split_plan.specs.Change.{Change, is_rewritten, remade, fresh, freed_by, changes, family_changes, fresh_of, all_fresh}
 use Rattle.split_plan.specs.Terms.{freed_of, terms}
 use Rattle.split_plan.proofs.ChangeLemmas.{remade_by}
@@ -21,12 +21,12 @@ module _ {V : Type 0} where
   -- ---- groups that are not rewritten
 
   -- what becomes of a group that isn't rewritten
-  pub record IsIdle (s : Settings) (used : List ℕ) (i : ℕ) (g : List (Worked V)) : Type 0 where
+  pub record IsIdle (s : Settings) (used : List ℕ) (i : ℕ) (g : List (Updated V)) : Type 0 where
     pub new : remade s used i g ≡ placed_of g
     pub fresh : drop 1 (remade s used i g) ≡ []
     pub freed : drop 1 (placed_of g) ≡ []
 
-  pub idle_group : (s : Settings) (used : List ℕ) (i : ℕ) (g : List (Worked V)) → is_rewritten g ≡ false → IsIdle s used i g
+  pub idle_group : (s : Settings) (used : List ℕ) (i : ℕ) (g : List (Updated V)) → is_rewritten g ≡ false → IsIdle s used i g
   idle_group s used i [] e = record { new = refl; fresh = refl; freed = refl }
   idle_group s used i (w ∷ []) e =
       let same : remade s used i (w ∷ []) ≡ placed_of (w ∷ []) = ap (λ (b : Bool). remade_by b s used i w []) e in
@@ -38,7 +38,7 @@ module _ {V : Type 0} where
     pub fresh : fresh_of cs ≡ fresh_of ds
     pub freed : freed_of cs ≡ freed_of ds
 
-  alike_by : (b : Bool) (s : Settings) (used : List ℕ) (i : ℕ) (g : List (Worked V)) (gs : List (List (Worked V))) → is_rewritten g ≡ b → ((j : ℕ) → AreAlike (changes s used j gs) (changes s used j (filter is_rewritten gs)))
+  alike_by : (b : Bool) (s : Settings) (used : List ℕ) (i : ℕ) (g : List (Updated V)) (gs : List (List (Updated V))) → is_rewritten g ≡ b → ((j : ℕ) → AreAlike (changes s used j gs) (changes s used j (filter is_rewritten gs)))
       → AreAlike (changes s used i (g ∷ gs)) (changes s used i (cond b (g ∷ filter is_rewritten gs) (filter is_rewritten gs)))
   alike_by true s used i g gs e ih =
       let here : List (Placed V) = drop 1 (remade s used i g) in
@@ -56,7 +56,7 @@ module _ {V : Type 0} where
       }
 
   -- the groups that are not rewritten are single pages that stay as they are: nothing comes or goes with them
-  pub alike_rewritten : (s : Settings) (used : List ℕ) (i : ℕ) (gs : List (List (Worked V))) → AreAlike (changes s used i gs) (changes s used i (filter is_rewritten gs))
+  pub alike_rewritten : (s : Settings) (used : List ℕ) (i : ℕ) (gs : List (List (Updated V))) → AreAlike (changes s used i gs) (changes s used i (filter is_rewritten gs))
   alike_rewritten s used i [] = record { fresh = refl; freed = refl }
   alike_rewritten s used i (g ∷ gs) = alike_by (is_rewritten g) s used i g gs refl (λ j. alike_rewritten s used j gs)
 
@@ -83,10 +83,10 @@ module _ {X : Type 0} (test : X → Bool) where
 
 module _ {V : Type 0} where
   -- the groups of all families
-  abbrev pub all_groups : List (List (Worked V)) → List (List (Worked V))
+  abbrev pub all_groups : List (List (Updated V)) → List (List (Updated V))
   all_groups fs = flat_map (λ f. groups is_thin f) fs
 
-  changes-append : (s : Settings) (used : List ℕ) (i : ℕ) (gs hs : List (List (Worked V))) → changes s used i (gs ++ hs) ≡ changes s used i gs ++ changes s used (i + length (fresh_of (changes s used i gs))) hs
+  changes-append : (s : Settings) (used : List ℕ) (i : ℕ) (gs hs : List (List (Updated V))) → changes s used i (gs ++ hs) ≡ changes s used i gs ++ changes s used (i + length (fresh_of (changes s used i gs))) hs
   changes-append s used i [] hs = let e : i ≡ i + 0 = omega arith in ap (λ (j : ℕ). changes s used j hs) e
   changes-append s used i (g ∷ gs) hs =
       let here : List (Placed V) = drop 1 (remade s used i g) in
@@ -97,7 +97,7 @@ module _ {V : Type 0} where
       ap (λ (cs : List (Change V)). c ∷ cs) (changes-append s used j gs hs) ∙ ap (λ (k : ℕ). c ∷ (later ++ changes s used k hs)) e
 
   -- the new pages of families, as one list
-  pub flat-family_changes : (s : Settings) (used : List ℕ) (i : ℕ) (fs : List (List (Worked V))) → flat (family_changes s used i fs) ≡ changes s used i (all_groups fs)
+  pub flat-family_changes : (s : Settings) (used : List ℕ) (i : ℕ) (fs : List (List (Updated V))) → flat (family_changes s used i fs) ≡ changes s used i (all_groups fs)
   flat-family_changes s used i [] = refl
   flat-family_changes s used i (f ∷ fs) =
       let cs : List (Change V) = changes s used i (groups is_thin f) in
@@ -114,17 +114,17 @@ module _ {V : Type 0} where
   fresh-changing_changes s used i chs = flat_map-flat fresh (changing_changes s used i chs) ∙ ap (λ (cs : List (Change V)). fresh_of cs) (flat-changing_changes s used i chs)
 
   -- those that change have the groups that are rewritten
-  joined-with_changing : (gs : List (List (Worked V))) (p : Placed ℕ) (chs : List (Changing V)) → (let c : Changing V = record { parent = p; groups = gs } in changing_groups (with_changing gs c chs) ≡ gs ++ changing_groups chs)
+  joined-with_changing : (gs : List (List (Updated V))) (p : Placed ℕ) (chs : List (Changing V)) → (let c : Changing V = record { parent = p; groups = gs } in changing_groups (with_changing gs c chs) ≡ gs ++ changing_groups chs)
   joined-with_changing [] p chs = refl
   joined-with_changing (g ∷ gs) p chs = refl
 
-  pub groups-changing_families : (ps : List (Placed ℕ)) (ws : List (Worked V)) → changing_groups (changing_families ps ws) ≡ filter is_rewritten (all_groups (families ps ws))
+  pub groups-changing_families : (ps : List (Placed ℕ)) (ws : List (Updated V)) → changing_groups (changing_families ps ws) ≡ filter is_rewritten (all_groups (families ps ws))
   groups-changing_families [] ws = refl
   groups-changing_families (p ∷ ps) ws =
-      let f : List (Worked V) = take (length (entries p)) ws in
-      let more : List (Worked V) = drop (length (entries p)) ws in
+      let f : List (Updated V) = take (length (entries p)) ws in
+      let more : List (Updated V) = drop (length (entries p)) ws in
       joined-with_changing (groups_to_rewrite f) p (changing_families ps more)
-      ∙ ap (λ (gs : List (List (Worked V))). groups_to_rewrite f ++ gs) (groups-changing_families ps more)
+      ∙ ap (λ (gs : List (List (Updated V))). groups_to_rewrite f ++ gs) (groups-changing_families ps more)
       ∙ sym (filter-joined is_rewritten (groups is_thin f) (all_groups (families ps more)))
 
   -- ---- new and removed pages of a level
@@ -140,20 +140,20 @@ module _ {V : Type 0} where
     freed = flat_map-flat freed_by css ∙ a.freed ∙ sym (flat_map-flat freed_by dss);
   }
 
-  pub alike_level : (s : Settings) (used : List ℕ) (i : ℕ) (ps : List (Placed ℕ)) (ws : List (Worked V)) → AreAllAlike (family_changes s used i (families ps ws)) (changing_changes s used i (changing_families ps ws))
+  pub alike_level : (s : Settings) (used : List ℕ) (i : ℕ) (ps : List (Placed ℕ)) (ws : List (Updated V)) → AreAllAlike (family_changes s used i (families ps ws)) (changing_changes s used i (changing_families ps ws))
   alike_level s used i ps ws =
-      let gs : List (List (Worked V)) = all_groups (families ps ws) in
+      let gs : List (List (Updated V)) = all_groups (families ps ws) in
       let css : List (List (Change V)) = family_changes s used i (families ps ws) in
       let dss : List (List (Change V)) = changing_changes s used i (changing_families ps ws) in
-      let d : flat dss ≡ changes s used i (filter is_rewritten gs) = flat-changing_changes s used i (changing_families ps ws) ∙ ap (λ (hs : List (List (Worked V))). changes s used i hs) (groups-changing_families ps ws) in
+      let d : flat dss ≡ changes s used i (filter is_rewritten gs) = flat-changing_changes s used i (changing_families ps ws) ∙ ap (λ (hs : List (List (Updated V))). changes s used i hs) (groups-changing_families ps ws) in
       let a : AreAlike (flat css) (flat dss) =
       subst (λ (cs : List (Change V)). AreAlike cs (flat dss)) (sym (flat-family_changes s used i (families ps ws))) (subst (λ (ds : List (Change V)). AreAlike (changes s used i gs) ds) (sym d) (alike_rewritten s used i gs)) in
       alike_flat css dss a
 
   -- as one list
-  pub fresh_on_top : (s : Settings) (used : List ℕ) (i : ℕ) (ws : List (Worked V)) → all_fresh (changes s used i (ws ∷ []) ∷ []) ≡ fresh_of (changes s used i (filter is_rewritten (ws ∷ [])))
+  pub fresh_on_top : (s : Settings) (used : List ℕ) (i : ℕ) (ws : List (Updated V)) → all_fresh (changes s used i (ws ∷ []) ∷ []) ≡ fresh_of (changes s used i (filter is_rewritten (ws ∷ [])))
   fresh_on_top s used i ws = append-nil (fresh_of (changes s used i (ws ∷ []))) ∙ (alike_rewritten s used i (ws ∷ [])).fresh
 
   -- of a level under parents, as one list
-  pub fresh_on_level : (s : Settings) (used : List ℕ) (i : ℕ) (ps : List (Placed ℕ)) (ws : List (Worked V)) → all_fresh (family_changes s used i (families ps ws)) ≡ fresh_of (changes s used i (changing_groups (changing_families ps ws)))
+  pub fresh_on_level : (s : Settings) (used : List ℕ) (i : ℕ) (ps : List (Placed ℕ)) (ws : List (Updated V)) → all_fresh (family_changes s used i (families ps ws)) ≡ fresh_of (changes s used i (changing_groups (changing_families ps ws)))
   fresh_on_level s used i ps ws = (alike_level s used i ps ws).fresh ∙ fresh-changing_changes s used i (changing_families ps ws)

@@ -12,15 +12,15 @@ use Rattle.mapping.specs.Tree.Logged.{No, Old, Upto}
 use Rattle.mapping.specs.Levels.{Placed, pids}
 use Rattle.mapping.specs.FreshPids.{is_among}
 use Rattle.mapping.specs.Outdate.{outdate, outdate_all}
-use Rattle.page_runs.specs.Worked.{Worked, is_thin}
+use Rattle.page_runs.specs.Updated.{Updated, is_thin}
 use Rattle.split_plan.specs.Groups.{groups}
 use Rattle.split_plan.proofs.GroupLemmas.{groups-joined}
-use Rattle.split_plan.specs.WorkedLevel.{placed_of}
+use Rattle.split_plan.specs.UpdatedLevel.{placed_of}
 use Rattle.split_plan.specs.Change.{Change, is_rewritten, remade, fresh, changes, family_changes, outdated, all_outdated}
 use Rattle.climb_plan.specs.Climb.{families}
 use Rattle.climb_plan.specs.Changing.{changing_families, changing_groups}
 use Rattle.climb_plan.proofs.ChangingGroups.{flat_map-flat, filter-joined, all_groups, flat-family_changes, groups-changing_families}
-use Rattle.climb_plan.proofs.Installed.{worked_pids, replaced_among}
+use Rattle.climb_plan.proofs.Installed.{updated_pids, replaced_among}
 
 -- ---- numbers among others
 
@@ -45,91 +45,91 @@ paired false false c d = refl
 
 module _ {V : Type 0} where
   -- the pids of pages after their runs are those of the pages
-  pub worked_pids-placed : (ws : List (Worked V)) → worked_pids ws ≡ pids (placed_of ws)
-  worked_pids-placed [] = refl
-  worked_pids-placed (w ∷ ws) = ap (λ (ns : List ℕ). w.placed.pid ∷ ns) (worked_pids-placed ws)
+  pub updated_pids-placed : (ws : List (Updated V)) → updated_pids ws ≡ pids (placed_of ws)
+  updated_pids-placed [] = refl
+  updated_pids-placed (w ∷ ws) = ap (λ (ns : List ℕ). w.placed.pid ∷ ns) (updated_pids-placed ws)
 
-  pub worked_pids-append : (xs ys : List (Worked V)) → worked_pids (xs ++ ys) ≡ worked_pids xs ++ worked_pids ys
-  worked_pids-append xs ys = map-append (λ w. w.placed.pid) xs ys
+  pub updated_pids-append : (xs ys : List (Updated V)) → updated_pids (xs ++ ys) ≡ updated_pids xs ++ updated_pids ys
+  updated_pids-append xs ys = map-append (λ w. w.placed.pid) xs ys
 
   -- ---- one group
 
   -- one more member: whether it was replaced, and whether the group is rewritten
-  member_by : (r b : Bool) (n : ℕ) (w : Worked V) (ws all some : List (Worked V)) → is_among n (worked_pids all) ≡ (is_among n (worked_pids some) || is_among n (worked_pids (cond b ws [])))
-      → is_among n (worked_pids (cond (r || b) (w ∷ all) all)) ≡ (is_among n (worked_pids (cond r (w ∷ some) some)) || is_among n (worked_pids (cond b (w ∷ ws) [])))
-  member_by true true n w ws all some e = both_ways (nat_eq n w.placed.pid) (is_among n (worked_pids all)) (is_among n (worked_pids some)) (is_among n (worked_pids ws)) e
-  member_by true false n w ws all some e = ap (λ (x : Bool). nat_eq n w.placed.pid || x) e ∙ or_grouped (nat_eq n w.placed.pid) (is_among n (worked_pids some)) false
-  member_by false true n w ws all some e = on_the_right (nat_eq n w.placed.pid) (is_among n (worked_pids all)) (is_among n (worked_pids some)) (is_among n (worked_pids ws)) e
+  member_by : (r b : Bool) (n : ℕ) (w : Updated V) (ws all some : List (Updated V)) → is_among n (updated_pids all) ≡ (is_among n (updated_pids some) || is_among n (updated_pids (cond b ws [])))
+      → is_among n (updated_pids (cond (r || b) (w ∷ all) all)) ≡ (is_among n (updated_pids (cond r (w ∷ some) some)) || is_among n (updated_pids (cond b (w ∷ ws) [])))
+  member_by true true n w ws all some e = both_ways (nat_eq n w.placed.pid) (is_among n (updated_pids all)) (is_among n (updated_pids some)) (is_among n (updated_pids ws)) e
+  member_by true false n w ws all some e = ap (λ (x : Bool). nat_eq n w.placed.pid || x) e ∙ or_grouped (nat_eq n w.placed.pid) (is_among n (updated_pids some)) false
+  member_by false true n w ws all some e = on_the_right (nat_eq n w.placed.pid) (is_among n (updated_pids all)) (is_among n (updated_pids some)) (is_among n (updated_pids ws)) e
   member_by false false n w ws all some e = e
 
-  members_outdated : (b : Bool) (n : ℕ) (ws : List (Worked V)) → is_among n (worked_pids (filter (λ w. w.replaced || b) ws)) ≡ (is_among n (worked_pids (replaced_among ws)) || is_among n (worked_pids (cond b ws [])))
+  members_outdated : (b : Bool) (n : ℕ) (ws : List (Updated V)) → is_among n (updated_pids (filter (λ w. w.replaced || b) ws)) ≡ (is_among n (updated_pids (replaced_among ws)) || is_among n (updated_pids (cond b ws [])))
   members_outdated true n [] = refl
   members_outdated false n [] = refl
   members_outdated b n (w ∷ ws) = member_by w.replaced b n w ws (filter (λ v. v.replaced || b) ws) (replaced_among ws) (members_outdated b n ws)
 
   -- ---- groups
 
-  more_rewritten : (b : Bool) (g : List (Worked V)) (gs : List (List (Worked V))) → worked_pids (flat (cond b (g ∷ gs) gs)) ≡ worked_pids (cond b g []) ++ worked_pids (flat gs)
-  more_rewritten true g gs = worked_pids-append g (flat gs)
+  more_rewritten : (b : Bool) (g : List (Updated V)) (gs : List (List (Updated V))) → updated_pids (flat (cond b (g ∷ gs) gs)) ≡ updated_pids (cond b g []) ++ updated_pids (flat gs)
+  more_rewritten true g gs = updated_pids-append g (flat gs)
   more_rewritten false g gs = refl
 
-  replaced-append : (xs ys : List (Worked V)) → worked_pids (replaced_among (xs ++ ys)) ≡ worked_pids (replaced_among xs) ++ worked_pids (replaced_among ys)
-  replaced-append xs ys = ap (λ (ws : List (Worked V)). worked_pids ws) (filter-joined (λ (w : Worked V). w.replaced) xs ys) ∙ worked_pids-append (replaced_among xs) (replaced_among ys)
+  replaced-append : (xs ys : List (Updated V)) → updated_pids (replaced_among (xs ++ ys)) ≡ updated_pids (replaced_among xs) ++ updated_pids (replaced_among ys)
+  replaced-append xs ys = ap (λ (ws : List (Updated V)). updated_pids ws) (filter-joined (λ (w : Updated V). w.replaced) xs ys) ∙ updated_pids-append (replaced_among xs) (replaced_among ys)
 
   -- outdated are the pids of the members that were replaced, and those of all members of the groups that are rewritten
-  pub outdated-groups : (s : Settings) (used : List ℕ) (i : ℕ) (gs : List (List (Worked V))) (n : ℕ)
-      → is_among n (flat_map outdated (changes s used i gs)) ≡ (is_among n (worked_pids (replaced_among (flat gs))) || is_among n (worked_pids (flat (filter is_rewritten gs))))
+  pub outdated-groups : (s : Settings) (used : List ℕ) (i : ℕ) (gs : List (List (Updated V))) (n : ℕ)
+      → is_among n (flat_map outdated (changes s used i gs)) ≡ (is_among n (updated_pids (replaced_among (flat gs))) || is_among n (updated_pids (flat (filter is_rewritten gs))))
   outdated-groups s used i [] n = refl
   outdated-groups s used i (g ∷ gs) n =
       let c : Change V = record { members = g; pages = remade s used i g } in
       let later : List ℕ = flat_map outdated (changes s used (i + length (fresh c)) gs) in
       let rest = outdated-groups s used (i + length (fresh c)) gs n in
-      let a : Bool = is_among n (worked_pids (replaced_among g)) in
-      let b : Bool = is_among n (worked_pids (cond (is_rewritten g) g [])) in
-      let x : Bool = is_among n (worked_pids (replaced_among (flat gs))) in
-      let y : Bool = is_among n (worked_pids (flat (filter is_rewritten gs))) in
+      let a : Bool = is_among n (updated_pids (replaced_among g)) in
+      let b : Bool = is_among n (updated_pids (cond (is_rewritten g) g [])) in
+      let x : Bool = is_among n (updated_pids (replaced_among (flat gs))) in
+      let y : Bool = is_among n (updated_pids (flat (filter is_rewritten gs))) in
       let here : is_among n (outdated c) ≡ (a || b) = members_outdated (is_rewritten g) n g in
-      let front : is_among n (worked_pids (replaced_among (g ++ flat gs))) ≡ (a || x) =
-      ap (λ (ns : List ℕ). is_among n ns) (replaced-append g (flat gs)) ∙ among-joined n (worked_pids (replaced_among g)) (worked_pids (replaced_among (flat gs))) in
-      let back : is_among n (worked_pids (flat (filter is_rewritten (g ∷ gs)))) ≡ (b || y) =
-      ap (λ (ns : List ℕ). is_among n ns) (more_rewritten (is_rewritten g) g (filter is_rewritten gs)) ∙ among-joined n (worked_pids (cond (is_rewritten g) g [])) (worked_pids (flat (filter is_rewritten gs))) in
+      let front : is_among n (updated_pids (replaced_among (g ++ flat gs))) ≡ (a || x) =
+      ap (λ (ns : List ℕ). is_among n ns) (replaced-append g (flat gs)) ∙ among-joined n (updated_pids (replaced_among g)) (updated_pids (replaced_among (flat gs))) in
+      let back : is_among n (updated_pids (flat (filter is_rewritten (g ∷ gs)))) ≡ (b || y) =
+      ap (λ (ns : List ℕ). is_among n ns) (more_rewritten (is_rewritten g) g (filter is_rewritten gs)) ∙ among-joined n (updated_pids (cond (is_rewritten g) g [])) (updated_pids (flat (filter is_rewritten gs))) in
       let parts : is_among n (outdated c ++ later) ≡ ((a || b) || (x || y)) = among-joined n (outdated c) later ∙ ap (λ (p : Bool). p || is_among n later) here ∙ ap (λ (q : Bool). (a || b) || q) rest in
-      let whole : ((a || x) || (b || y)) ≡ (is_among n (worked_pids (replaced_among (g ++ flat gs))) || is_among n (worked_pids (flat (filter is_rewritten (g ∷ gs))))) =
-      ap (λ (p : Bool). p || (b || y)) (sym front) ∙ ap (λ (q : Bool). is_among n (worked_pids (replaced_among (g ++ flat gs))) || q) (sym back) in
+      let whole : ((a || x) || (b || y)) ≡ (is_among n (updated_pids (replaced_among (g ++ flat gs))) || is_among n (updated_pids (flat (filter is_rewritten (g ∷ gs))))) =
+      ap (λ (p : Bool). p || (b || y)) (sym front) ∙ ap (λ (q : Bool). is_among n (updated_pids (replaced_among (g ++ flat gs))) || q) (sym back) in
       parts ∙ paired a b x y ∙ whole
 
   -- ---- a level
 
   -- the groups of all families, joined, are the families, joined
-  pub all_groups-joined : (fs : List (List (Worked V))) → flat (all_groups fs) ≡ flat fs
+  pub all_groups-joined : (fs : List (List (Updated V))) → flat (all_groups fs) ≡ flat fs
   all_groups-joined [] = refl
   all_groups-joined (f ∷ fs) =
-      flat_map-append (λ (g : List (Worked V)). g) (groups is_thin f) (all_groups fs)
-      ∙ ap (λ (ws : List (Worked V)). ws ++ flat (all_groups fs)) (groups-joined is_thin f)
-      ∙ ap (λ (ws : List (Worked V)). f ++ ws) (all_groups-joined fs)
+      flat_map-append (λ (g : List (Updated V)). g) (groups is_thin f) (all_groups fs)
+      ∙ ap (λ (ws : List (Updated V)). ws ++ flat (all_groups fs)) (groups-joined is_thin f)
+      ∙ ap (λ (ws : List (Updated V)). f ++ ws) (all_groups-joined fs)
 
   -- of a level under parents: the pids of its pages that were replaced, and those of the groups that are rewritten
-  pub outdated-level : (s : Settings) (used : List ℕ) (i : ℕ) (ps : List (Placed ℕ)) (ws : List (Worked V)) (n : ℕ) → flat (families ps ws) ≡ ws
-      → is_among n (all_outdated (family_changes s used i (families ps ws))) ≡ (is_among n (worked_pids (replaced_among ws)) || is_among n (worked_pids (flat (changing_groups (changing_families ps ws)))))
+  pub outdated-level : (s : Settings) (used : List ℕ) (i : ℕ) (ps : List (Placed ℕ)) (ws : List (Updated V)) (n : ℕ) → flat (families ps ws) ≡ ws
+      → is_among n (all_outdated (family_changes s used i (families ps ws))) ≡ (is_among n (updated_pids (replaced_among ws)) || is_among n (updated_pids (flat (changing_groups (changing_families ps ws)))))
   outdated-level s used i ps ws n e =
-      let fs : List (List (Worked V)) = families ps ws in
-      let gs : List (List (Worked V)) = all_groups fs in
+      let fs : List (List (Updated V)) = families ps ws in
+      let gs : List (List (Updated V)) = all_groups fs in
       let one : all_outdated (family_changes s used i fs) ≡ flat_map outdated (changes s used i gs) =
       flat_map-flat outdated (family_changes s used i fs) ∙ ap (λ (cs : List (Change V)). flat_map outdated cs) (flat-family_changes s used i fs) in
       let members : flat gs ≡ ws = all_groups-joined fs ∙ e in
-      let all : List (Worked V) → List (List (Worked V)) → Bool = λ vs hs. is_among n (worked_pids (replaced_among vs)) || is_among n (worked_pids (flat hs)) in
+      let all : List (Updated V) → List (List (Updated V)) → Bool = λ vs hs. is_among n (updated_pids (replaced_among vs)) || is_among n (updated_pids (flat hs)) in
       ap (λ (ns : List ℕ). is_among n ns) one
       ∙ outdated-groups s used i gs n
-      ∙ ap (λ (vs : List (Worked V)). all vs (filter is_rewritten gs)) members
-      ∙ ap (λ (hs : List (List (Worked V))). all ws hs) (sym (groups-changing_families ps ws))
+      ∙ ap (λ (vs : List (Updated V)). all vs (filter is_rewritten gs)) members
+      ∙ ap (λ (hs : List (List (Updated V))). all ws hs) (sym (groups-changing_families ps ws))
 
   -- and of the highest level
-  pub outdated-top : (s : Settings) (used : List ℕ) (i : ℕ) (ws : List (Worked V)) (n : ℕ)
-      → is_among n (all_outdated (changes s used i (ws ∷ []) ∷ [])) ≡ (is_among n (worked_pids (replaced_among ws)) || is_among n (worked_pids (flat (filter is_rewritten (ws ∷ [])))))
+  pub outdated-top : (s : Settings) (used : List ℕ) (i : ℕ) (ws : List (Updated V)) (n : ℕ)
+      → is_among n (all_outdated (changes s used i (ws ∷ []) ∷ [])) ≡ (is_among n (updated_pids (replaced_among ws)) || is_among n (updated_pids (flat (filter is_rewritten (ws ∷ [])))))
   outdated-top s used i ws n =
       ap (λ (ns : List ℕ). is_among n ns) (append-nil (flat_map outdated (changes s used i (ws ∷ []))))
       ∙ outdated-groups s used i (ws ∷ []) n
-      ∙ ap (λ (vs : List (Worked V)). is_among n (worked_pids (replaced_among vs)) || is_among n (worked_pids (flat (filter is_rewritten (ws ∷ []))))) (append-nil ws)
+      ∙ ap (λ (vs : List (Updated V)). is_among n (updated_pids (replaced_among vs)) || is_among n (updated_pids (flat (filter is_rewritten (ws ∷ []))))) (append-nil ws)
 
 -- ---- what the log has, step by step
 

@@ -15,17 +15,17 @@ use Rattle.mapping.specs.Table.{Mapping, pids_in_use, place_of}
 use Rattle.mapping.specs.TreeInMemory.{TreeInMemory}
 use Rattle.mapping.proofs.LevelLemmas.{pids-append}
 use Rattle.mapping.proofs.PidLemmas.{all_among, among_apart, among_either}
-use Rattle.page_runs.specs.Worked.{Worked}
-use Rattle.split_plan.specs.WorkedLevel.{placed_of}
+use Rattle.page_runs.specs.Updated.{Updated}
+use Rattle.split_plan.specs.UpdatedLevel.{placed_of}
 use Rattle.split_plan.specs.Change.{Change, fresh, new_of, fresh_of, all_new, all_fresh, all_outdated}
 use Rattle.climb_plan.specs.Changing.{AreHome, same_page}
 use Rattle.climb_plan.specs.Climb.{Climbed, climb}
 use Rattle.climb_plan.specs.HasClimbed.{HasClimbed}
-use Rattle.climb_plan.proofs.ChangingOutdated.{worked_pids-placed}
+use Rattle.climb_plan.proofs.ChangingOutdated.{updated_pids-placed}
 use Rattle.climb_plan.proofs.InstalledLevel.{HasLevel}
 use Rattle.climb_plan.proofs.InstalledPages.{AreApart, not_among_from}
 use Rattle.climb_plan.proofs.Untouched.{as_they_were, climb_same, none_outdated}
-use Rattle.climb_plan.proofs.Installed.{worked_pids}
+use Rattle.climb_plan.proofs.Installed.{updated_pids}
 use Rattle.climb_plan.proofs.LevelParts.{level_of}
 
 module _ {V : Type 0} where
@@ -102,27 +102,27 @@ still_home_above before after (l ∷ ls) a h =
 
 module _ {V : Type 0} where
   -- a table that differs from another one only at the level's pids may be used in its place
-  pub has_level_from : (of : Page V → PageOfKind) (like before after : Mapping PageOfKind) (ws : List (Worked V)) (new fresh : List (Placed V)) → ((n : ℕ) → is_among n (worked_pids ws) ≡ false → place_of like n ≡ place_of before n)
+  pub has_level_from : (of : Page V → PageOfKind) (like before after : Mapping PageOfKind) (ws : List (Updated V)) (new fresh : List (Placed V)) → ((n : ℕ) → is_among n (updated_pids ws) ≡ false → place_of like n ≡ place_of before n)
       → HasLevel of like after ws new fresh → HasLevel of before after ws new fresh
   has_level_from of like before after ws new fresh same l =
       record { home = l.home; freed = l.freed; others = λ n a b. l.others n a b ∙ same n a }
 
-module _ {V : Type 0} (of : Page V → PageOfKind) (below before after : Mapping PageOfKind) (ws : List (Worked V)) (css : List (List (Change V))) (olds : List ℕ) (ls : List (List (Placed ℕ)))
+module _ {V : Type 0} (of : Page V → PageOfKind) (below before after : Mapping PageOfKind) (ws : List (Updated V)) (css : List (List (Change V))) (olds : List ℕ) (ls : List (List (Placed ℕ)))
     (level : HasLevel of before after ws (all_new css) (all_fresh css)) where
   -- the levels above stay in the table, if they share no pid with the level
-  pub above_stay : AreApart (flat_map pids ls) (worked_pids ws) → AreApart (flat_map pids ls) (pids (all_new css)) → AllByRecursion (AreHome Index before) ls → AllByRecursion (AreHome Index after) ls
+  pub above_stay : AreApart (flat_map pids ls) (updated_pids ws) → AreApart (flat_map pids ls) (pids (all_new css)) → AllByRecursion (AreHome Index before) ls → AllByRecursion (AreHome Index after) ls
   above_stay a b h =
       let ns : List ℕ = flat_map pids ls in
       still_home_above before after ls (all_weaker (λ n. is_among n ns ≡ true) (λ n. place_of after n ≡ place_of before n) (λ n e. level.others n (a n e) (not_fresh n css (b n e))) ns (all_among ns)) h
 
-  gone_by : (b : Bool) (n : ℕ) → is_among n (worked_pids ws) ≡ b → (b ≡ false → place_of before n ≡ None) → is_among n (pids (all_new css)) ≡ false → place_of after n ≡ None
+  gone_by : (b : Bool) (n : ℕ) → is_among n (updated_pids ws) ≡ b → (b ≡ false → place_of before n ≡ None) → is_among n (pids (all_new css)) ≡ false → place_of after n ≡ None
   gone_by true n e h k = level.freed n e k
   gone_by false n e h k = level.others n e (not_fresh n css k) ∙ h refl
 
-  among_upper : (n : ℕ) → is_among n (pids (placed_of ws) ++ olds) ≡ true → is_among n (worked_pids ws) ≡ false → is_among n olds ≡ true
+  among_upper : (n : ℕ) → is_among n (pids (placed_of ws) ++ olds) ≡ true → is_among n (updated_pids ws) ≡ false → is_among n olds ≡ true
   among_upper n h e =
       elim (among_either n (pids (placed_of ws)) olds h) [
-        | inl a ↦ absurd (let c : is_among n (worked_pids ws) ≡ true = ap (λ (ns : List ℕ). is_among n ns) (worked_pids-placed ws) ∙ a in cc)
+        | inl a ↦ absurd (let c : is_among n (updated_pids ws) ≡ true = ap (λ (ns : List ℕ). is_among n ns) (updated_pids-placed ws) ∙ a in cc)
         | inr b ↦ b
       ]
 
@@ -131,28 +131,28 @@ module _ {V : Type 0} (of : Page V → PageOfKind) (below before after : Mapping
       → (n : ℕ) → is_among n (pids (placed_of ws) ++ olds) ≡ true → is_among n (pids (all_new css) ++ flat_map pids ls) ≡ false → place_of after n ≡ None
   gone_joined h n a b =
       let r = among_apart n (pids (all_new css)) (flat_map pids ls) b in
-      gone_by (is_among n (worked_pids ws)) n refl (λ e. h n (among_upper n a e) r.1) r.0
+      gone_by (is_among n (updated_pids ws)) n refl (λ e. h n (among_upper n a e) r.1) r.0
 
   -- and a pid of none of them has the place that it had
-  pub others_joined : ((n : ℕ) → is_among n (worked_pids ws) ≡ false → is_among n (pids (all_fresh css)) ≡ false → is_among n olds ≡ false → is_among n (flat_map pids ls) ≡ false → place_of before n ≡ place_of below n)
+  pub others_joined : ((n : ℕ) → is_among n (updated_pids ws) ≡ false → is_among n (pids (all_fresh css)) ≡ false → is_among n olds ≡ false → is_among n (flat_map pids ls) ≡ false → place_of before n ≡ place_of below n)
       → (n : ℕ) → is_among n (pids (placed_of ws) ++ olds) ≡ false → is_among n (pids (all_new css) ++ flat_map pids ls) ≡ false → place_of after n ≡ place_of below n
   others_joined h n a b =
       let q = among_apart n (pids (placed_of ws)) olds a in
       let r = among_apart n (pids (all_new css)) (flat_map pids ls) b in
-      let own : is_among n (worked_pids ws) ≡ false = ap (λ (ns : List ℕ). is_among n ns) (worked_pids-placed ws) ∙ q.0 in
+      let own : is_among n (updated_pids ws) ≡ false = ap (λ (ns : List ℕ). is_among n ns) (updated_pids-placed ws) ∙ q.0 in
       let fresh : is_among n (pids (all_fresh css)) ≡ false = not_fresh n css r.0 in
       level.others n own fresh ∙ h n own fresh q.1 r.1
 
 -- ---- what goes from one tree to the next
 
 -- before a climb continues above a level, fresh pids get places, and parents their runs: all else stays
-pub record IsMadeReady {V : Type 0} (before after : TreeInMemory) (ws : List (Worked V)) (fresh : List (Placed V)) (touched : List ℕ) : Type 0 where
-  pub others : (n : ℕ) → is_among n (worked_pids ws) ≡ false → is_among n (pids fresh) ≡ false → is_among n touched ≡ false → place_of after.table n ≡ place_of before.table n
+pub record IsMadeReady {V : Type 0} (before after : TreeInMemory) (ws : List (Updated V)) (fresh : List (Placed V)) (touched : List ℕ) : Type 0 where
+  pub others : (n : ℕ) → is_among n (updated_pids ws) ≡ false → is_among n (pids fresh) ≡ false → is_among n touched ≡ false → place_of after.table n ≡ place_of before.table n
   pub logged : after.table.logged ≡ before.table.logged
   pub height : after.height ≡ before.height
 
 -- after the levels above are there, the new pages of a level are installed
-pub record IsLevelInstalled {V : Type 0} (of : Page V → PageOfKind) (before after : TreeInMemory) (ws : List (Worked V)) (css : List (List (Change V))) : Type 0 where
+pub record IsLevelInstalled {V : Type 0} (of : Page V → PageOfKind) (before after : TreeInMemory) (ws : List (Updated V)) (css : List (List (Change V))) : Type 0 where
   pub level : HasLevel of before.table after.table ws (all_new css) (all_fresh css)
   pub rising : AreRisingPids (pids_in_use after.table)
   pub logged : after.table.logged ≡ outdate_all (all_outdated css) before.table.logged

@@ -15,21 +15,21 @@ use Rattle.mapping.specs.Tree.{Logged}
 use Rattle.mapping.specs.TreeInMemory.{TreeInMemory}
 use Rattle.mapping.proofs.LevelLemmas.{same_pids}
 use Rattle.mapping.proofs.PidLemmas.{among_apart}
-use Rattle.page_runs.specs.Worked.{Worked}
-use Rattle.split_plan.specs.WorkedLevel.{placed_of, worked_parents}
+use Rattle.page_runs.specs.Updated.{Updated}
+use Rattle.split_plan.specs.UpdatedLevel.{placed_of, updated_parents}
 use Rattle.split_plan.specs.Change.{Change, family_changes, all_new, all_fresh, all_outdated}
 use Rattle.split_plan.specs.Terms.{terms}
 use Rattle.split_plan.proofs.PidLemmas.{distinct_renewed, recast, renewed-append, renewed-family_changes}
 use Rattle.split_plan.proofs.Renewed.{Renewed}
 use Rattle.split_plan.proofs.Renewed.Renewed.{done, keep}
-use Rattle.split_plan.proofs.RunLemmas.{names-worked_parents}
+use Rattle.split_plan.proofs.RunLemmas.{names-updated_parents}
 use Rattle.climb_plan.specs.Climb.{Climbed, LevelPlan, climb, families}
 use Rattle.climb_plan.specs.HasClimbed.{HasClimbed}
-use Rattle.climb_plan.proofs.ChangingOutdated.{worked_pids-placed, outdate-joined}
+use Rattle.climb_plan.proofs.ChangingOutdated.{updated_pids-placed, outdate-joined}
 use Rattle.climb_plan.proofs.InstalledPages.{AreApart, turned, distinct_apart}
 use Rattle.climb_plan.proofs.Pids.{renewed-climb}
 use Rattle.climb_plan.proofs.Climbing.{IsMadeReady, IsLevelInstalled, fresh_is_new, above_stay, gone_joined, others_joined}
-use Rattle.climb_plan.proofs.Installed.{worked_pids}
+use Rattle.climb_plan.proofs.Installed.{updated_pids}
 use Rattle.climb_plan.proofs.LevelParts.{level_of}
 
 -- ---- distinct pids
@@ -50,13 +50,13 @@ apart_from_new {used} {i} {j} {k} {ns} {ms} {olds} {news} q r h d =
 
 -- ---- one level more
 
-module _ {V : Type 0} (s : Settings) (used : List ℕ) (i : ℕ) (ps : List (Placed ℕ)) (ws : List (Worked V)) (ups : List (List (Placed ℕ))) where
+module _ {V : Type 0} (s : Settings) (used : List ℕ) (i : ℕ) (ps : List (Placed ℕ)) (ws : List (Updated V)) (ups : List (List (Placed ℕ))) where
   -- the new pages of the level, its parents after their runs, and the climb of the levels from them on upward
   abbrev pub made_here : List (List (Change V))
   made_here = family_changes s used i (families ps ws)
 
-  abbrev pub parents_here : List (Worked ℕ)
-  parents_here = worked_parents s ps (map terms made_here)
+  abbrev pub parents_here : List (Updated ℕ)
+  parents_here = updated_parents s ps (map terms made_here)
 
   abbrev pub climbed_above : Climbed ℕ
   climbed_above = climb s used (i + length (all_fresh made_here)) parents_here ups
@@ -70,17 +70,17 @@ module _ {V : Type 0} (s : Settings) (used : List ℕ) (i : ℕ) (ps : List (Pla
 
   -- parents keep their pids
   pub parent_pids : pids (placed_of parents_here) ≡ pids ps
-  parent_pids = same_pids (placed_of parents_here) ps (names-worked_parents s ps (map terms made_here))
+  parent_pids = same_pids (placed_of parents_here) ps (names-updated_parents s ps (map terms made_here))
 
   module _ (flat_is : flat (families ps ws) ≡ ws) (stacked : Stacked ps ups) (never : AllByRecursion (IsNeverUnused used) (all_pids (placed_of ws) (ps ∷ ups))) (distinct : Distinct (all_pids (placed_of ws) (ps ∷ ups))) where
     abbrev renewed_above : (k : ℕ) × Renewed used (i + length (all_fresh made_here)) k (all_pids ps ups) (flat_map pids upper)
-    renewed_above = renewed-climb s used (i + length (all_fresh made_here)) parents_here ps ups (names-worked_parents s ps (map terms made_here)) stacked
+    renewed_above = renewed-climb s used (i + length (all_fresh made_here)) parents_here ps ups (names-updated_parents s ps (map terms made_here)) stacked
 
     abbrev renewed_here : Renewed used i (i + length (all_fresh made_here)) (pids (placed_of ws)) (pids (all_new made_here))
-    renewed_here = recast used refl (ap (λ (vs : List (Worked V)). pids (placed_of vs)) flat_is) refl (renewed-family_changes s used i (families ps ws))
+    renewed_here = recast used refl (ap (λ (vs : List (Updated V)). pids (placed_of vs)) flat_is) refl (renewed-family_changes s used i (families ps ws))
 
-    upper_apart : AreApart (flat_map pids upper) (worked_pids ws)
-    upper_apart = λ n e. ap (λ (ns : List ℕ). is_among n ns) (worked_pids-placed ws) ∙ apart_from_level (pids (placed_of ws)) renewed_above.1 never distinct n e
+    upper_apart : AreApart (flat_map pids upper) (updated_pids ws)
+    upper_apart = λ n e. ap (λ (ns : List ℕ). is_among n ns) (updated_pids-placed ws) ∙ apart_from_level (pids (placed_of ws)) renewed_above.1 never distinct n e
 
     upper_new : AreApart (flat_map pids upper) (pids (all_new made_here))
     upper_new = apart_from_new renewed_here renewed_above.1 never distinct
@@ -95,8 +95,8 @@ module _ {V : Type 0} (s : Settings) (used : List ℕ) (i : ℕ) (ps : List (Pla
 
     -- ---- the levels above don't touch a level
 
-    own_apart : AreApart (worked_pids ws) (all_pids (placed_of parents_here) ups)
-    own_apart n e = ap (λ (ns : List ℕ). is_among n ns) upper_pids ∙ apart_parts.0 n (ap (λ (ns : List ℕ). is_among n ns) (sym (worked_pids-placed ws)) ∙ e)
+    own_apart : AreApart (updated_pids ws) (all_pids (placed_of parents_here) ups)
+    own_apart n e = ap (λ (ns : List ℕ). is_among n ns) upper_pids ∙ apart_parts.0 n (ap (λ (ns : List ℕ). is_among n ns) (sym (updated_pids-placed ws)) ∙ e)
 
     new_apart : AreApart (pids (all_new made_here)) (all_pids (placed_of parents_here) ups)
     new_apart n e =
@@ -105,8 +105,8 @@ module _ {V : Type 0} (s : Settings) (used : List ℕ) (i : ℕ) (ps : List (Pla
         ap (λ (ns : List ℕ). is_among n ns) upper_pids ∙ (distinct_apart (pids (all_new made_here)) olds d).0 n e
 
     -- its pages have the places that they had, in the table or checked out
-    pub level_untouched : (ready above : TreeInMemory) → HasClimbed Index ready above plan_above climbed_above → (n : ℕ) → is_among n (worked_pids ws) ≡ true → place_of above.table n ≡ place_of ready.table n
-    level_untouched ready above c n e = c.others n (own_apart n e) (turned (flat_map pids upper) (worked_pids ws) upper_apart n e)
+    pub level_untouched : (ready above : TreeInMemory) → HasClimbed Index ready above plan_above climbed_above → (n : ℕ) → is_among n (updated_pids ws) ≡ true → place_of above.table n ≡ place_of ready.table n
+    level_untouched ready above c n e = c.others n (own_apart n e) (turned (flat_map pids upper) (updated_pids ws) upper_apart n e)
 
     -- and so have its fresh pids
     pub fresh_untouched : (ready above : TreeInMemory) → HasClimbed Index ready above plan_above climbed_above → (n : ℕ) → is_among n (pids (all_fresh made_here)) ≡ true → place_of above.table n ≡ place_of ready.table n

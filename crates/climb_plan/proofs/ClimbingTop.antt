@@ -14,8 +14,8 @@ use Rattle.mapping.specs.Proper.{Distinct, Stacked}
 use Rattle.mapping.specs.Tree.{Logged}
 use Rattle.mapping.specs.TreeInMemory.{TreeInMemory}
 use Rattle.mapping.proofs.PidLemmas.{among_either_by}
-use Rattle.page_runs.specs.Worked.{Worked}
-use Rattle.split_plan.specs.WorkedLevel.{placed_of}
+use Rattle.page_runs.specs.Updated.{Updated}
+use Rattle.split_plan.specs.UpdatedLevel.{placed_of}
 use Rattle.split_plan.specs.Change.{Change, remade, changes, all_new, all_fresh, all_outdated}
 use Rattle.split_plan.proofs.ChangeLemmas.{remade_begins}
 use Rattle.split_plan.proofs.PidLemmas.{distinct_renewed}
@@ -26,7 +26,7 @@ use Rattle.climb_plan.specs.HasClimbed.{HasClimbed}
 use Rattle.climb_plan.proofs.InstalledPages.{AreApart, turned, distinct_apart}
 use Rattle.climb_plan.proofs.Pids.{renewed-climb}
 use Rattle.climb_plan.proofs.Climbing.{IsMadeReady, IsLevelInstalled, fresh_is_new, above_stay, gone_joined, others_joined}
-use Rattle.climb_plan.proofs.Installed.{worked_pids}
+use Rattle.climb_plan.proofs.Installed.{updated_pids}
 use Rattle.climb_plan.proofs.LevelParts.{level_of}
 
 -- ---- the highest level
@@ -37,7 +37,7 @@ module _ {V : Type 0} where
   first_stays_by (p ∷ ps) m ms e = let here : name p ≡ m = cc in ap (λ (b : Bool). b || is_among m.1 (pids ps)) (eq-eqb m.1 p.pid (ap (λ (x : List ℕ × ℕ). x.1) (sym here)))
 
   -- the page of the highest level keeps its pid, which one of those that are made of it has
-  top_stays : (s : Settings) (used : List ℕ) (i n : ℕ) (ws : List (Worked V)) → length ws ≡ 1 → is_among n (worked_pids ws) ≡ true → is_among n (pids (all_new (changes s used i (ws ∷ []) ∷ []))) ≡ true
+  top_stays : (s : Settings) (used : List ℕ) (i n : ℕ) (ws : List (Updated V)) → length ws ≡ 1 → is_among n (updated_pids ws) ≡ true → is_among n (pids (all_new (changes s used i (ws ∷ []) ∷ []))) ≡ true
   top_stays s used i n [] l e = absurd (omega arith)
   top_stays s used i n (w ∷ []) l e =
       let new : List (Placed V) = remade s used i (w ∷ []) in
@@ -47,7 +47,7 @@ module _ {V : Type 0} where
       ap (λ (ps : List (Placed V)). is_among n (pids ps)) only ∙ ap (λ (m : ℕ). is_among m (pids new)) one ∙ own
   top_stays s used i n (w ∷ v ∷ ws) l e = absurd (omega arith)
 
-module _ {V : Type 0} (s : Settings) (used : List ℕ) (i : ℕ) (ws : List (Worked V)) where
+module _ {V : Type 0} (s : Settings) (used : List ℕ) (i : ℕ) (ws : List (Updated V)) where
   -- the new pages of the top page, and the levels that are added above it
   abbrev pub made_on_top : List (List (Change V))
   made_on_top = changes s used i (ws ∷ []) ∷ []
@@ -57,7 +57,7 @@ module _ {V : Type 0} (s : Settings) (used : List ℕ) (i : ℕ) (ws : List (Wor
 
   module _ (one : Stacked (placed_of ws) []) (never : AllByRecursion (IsNeverUnused used) (all_pids (placed_of ws) [])) where
     one_page : length ws ≡ 1
-    one_page = sym (length-map ws (λ (w : Worked V). w.placed)) ∙ one
+    one_page = sym (length-map ws (λ (w : Updated V). w.placed)) ∙ one
 
     only_distinct : (ps : List (Placed V)) → length ps ≡ 1 → Distinct (all_pids ps [])
     only_distinct [] e = tt
@@ -72,13 +72,13 @@ module _ {V : Type 0} (s : Settings) (used : List ℕ) (i : ℕ) (ws : List (Wor
         let d : Distinct (pids (all_new made_on_top) ++ flat_map pids grown_above) = distinct_renewed renewed_top.1 never (only_distinct (placed_of ws) one) in
         turned (pids (all_new made_on_top)) (flat_map pids grown_above) (distinct_apart (pids (all_new made_on_top)) (flat_map pids grown_above) d).0
 
-    grown_apart : AreApart (flat_map pids grown_above) (worked_pids ws)
+    grown_apart : AreApart (flat_map pids grown_above) (updated_pids ws)
     grown_apart n e =
-        false_from_ne_true (is_among n (worked_pids ws)) (λ a. let b : is_among n (pids (all_new made_on_top)) ≡ true = top_stays s used i n ws one_page a in let c : is_among n (pids (all_new made_on_top)) ≡ false = grown_new n e in absurd (cc))
+        false_from_ne_true (is_among n (updated_pids ws)) (λ a. let b : is_among n (pids (all_new made_on_top)) ≡ true = top_stays s used i n ws one_page a in let c : is_among n (pids (all_new made_on_top)) ≡ false = grown_new n e in absurd (cc))
 
     -- the levels that grow don't touch it, nor its fresh pids
-    pub own_not_grown : AreApart (worked_pids ws) (flat_map pids grown_above)
-    own_not_grown = turned (flat_map pids grown_above) (worked_pids ws) grown_apart
+    pub own_not_grown : AreApart (updated_pids ws) (flat_map pids grown_above)
+    own_not_grown = turned (flat_map pids grown_above) (updated_pids ws) grown_apart
 
     pub fresh_not_grown : AreApart (pids (all_fresh made_on_top)) (flat_map pids grown_above)
     fresh_not_grown n e = turned (flat_map pids grown_above) (pids (all_new made_on_top)) grown_new n (fresh_is_new n made_on_top e)

@@ -7,13 +7,13 @@ use Rattle.keys.specs.declared.settings.Settings.{Settings}
 use Rattle.keys.specs.Lists.{flat}
 use Rattle.mapping.specs.Levels.{Placed, joined, name, names}
 use Rattle.mapping.specs.Proper.{next_low, Tiled, Stacked}
-use Rattle.mapping.proofs.TileLemmas.{Names, next_low-same, some_page, rising-names}
+use Rattle.mapping.proofs.TileLemmas.{Separators, next_low-same, some_page, rising-names}
 use Rattle.split_plan.specs.Cut.{cut, piece_count}
 use Rattle.split_plan.proofs.CutLemmas.{cut-joined, cut_full, cut_some, length-cut, fewer_pieces}
-use Rattle.page_runs.specs.Worked.{Worked}
-use Rattle.split_plan.specs.WorkedLevel.{worked_parents, placed_of}
-use Rattle.split_plan.proofs.RunLemmas.{names-worked_parents}
-use Rattle.split_plan.proofs.WorkedLemmas.{tiled-worked_parents}
+use Rattle.page_runs.specs.Updated.{Updated}
+use Rattle.split_plan.specs.UpdatedLevel.{updated_parents, placed_of}
+use Rattle.split_plan.proofs.RunLemmas.{names-updated_parents}
+use Rattle.split_plan.proofs.WorkedLemmas.{tiled-updated_parents}
 use Rattle.split_plan.specs.Change.{Change, fresh_pages, changes, family_changes, new_of, all_new, all_fresh}
 use Rattle.split_plan.proofs.ChangeLemmas.{joined-fresh_pages, joined-changes, joined-family_changes, next_low-changes, next_low-family_changes, tiled-fresh_pages, tiled-changes, tiled-family_changes, length-fresh_pages, AllHeaded, headed-fresh_pages, headed-changes, headed-family_changes}
 use Rattle.split_plan.specs.Terms.{terms}
@@ -34,7 +34,7 @@ module _ {V : Type 0} where
       → Stacked ps (cond b (let up : List (Placed ℕ) = fresh_pages used i (cut s.fan (names ps)) in up ∷ grown_levels enough s used (i + length up) up) [])
   grown_by false enough s used i ps e f h l d ih = one_left (length ps) h e
   grown_by true enough s used i ps e f h l d ih =
-      let ns : Names = names ps in
+      let ns : Separators = names ps in
       let up : List (Placed ℕ) = fresh_pages used i (cut s.fan ns) in
       let fan : 0 < s.fan = omega arith in
       let several : 1 < length ps = ltb-true 1 (length ps) e in
@@ -43,7 +43,7 @@ module _ {V : Type 0} where
       let count : length up ≡ piece_count s.fan (length ns) = length-fresh_pages used i (cut s.fan ns) ∙ length-cut s.fan ns in
       let less : piece_count s.fan (length ns) < length ns = fewer_pieces s.fan (length ns) f (omega arith) in
       let full : AllFull (cut s.fan ns) = cut_full s.fan ns fan some in
-      let rising : IsRising (flat (cut s.fan ns)) = subst (λ (x : Names). IsRising x) (sym (cut-joined s.fan ns)) (rising-names ps None d) in
+      let rising : IsRising (flat (cut s.fan ns)) = subst (λ (x : Separators). IsRising x) (sym (cut-joined s.fan ns)) (rising-names ps None d) in
       let tiled : Tiled up None = tiled-fresh_pages used i (cut s.fan ns) None full rising tt in
       let one : 0 < length up = let pieces : 0 < length (cut s.fan ns) = cut_some s.fan ns in omega (arith, length-cut s.fan ns) in (
         record { linked = joined-fresh_pages used i (cut s.fan ns) ∙ cut-joined s.fan ns; headed = headed-fresh_pages used i (cut s.fan ns) full; tiled = tiled },
@@ -58,46 +58,46 @@ stacked-grown_levels (suc enough) s used i ps f h l d = grown_by (nat_lt 1 (leng
 
 module _ {V : Type 0} where
   -- the highest level is one family, whose one group it is
-  top_is : (ws : List (Worked V)) → flat (ws ∷ []) ≡ ws
+  top_is : (ws : List (Updated V)) → flat (ws ∷ []) ≡ ws
   top_is ws = append-nil ws
 
-  only_new : (s : Settings) (used : List ℕ) (i : ℕ) (ws : List (Worked V)) → all_new (changes s used i (ws ∷ []) ∷ []) ≡ new_of (changes s used i (ws ∷ []))
+  only_new : (s : Settings) (used : List ℕ) (i : ℕ) (ws : List (Updated V)) → all_new (changes s used i (ws ∷ []) ∷ []) ≡ new_of (changes s used i (ws ∷ []))
   only_new s used i ws = append-nil (new_of (changes s used i (ws ∷ [])))
 
   -- a climb keeps the entries of the level that it begins with
-  pub joined-climb : (s : Settings) (used : List ℕ) (i : ℕ) (ws : List (Worked V)) (ups : List (List (Placed ℕ))) (olds : List (Placed V)) → names (placed_of ws) ≡ names olds → Stacked olds ups → joined (climb s used i ws ups).tower.level ≡ joined (placed_of ws)
+  pub joined-climb : (s : Settings) (used : List ℕ) (i : ℕ) (ws : List (Updated V)) (ups : List (List (Placed ℕ))) (olds : List (Placed V)) → names (placed_of ws) ≡ names olds → Stacked olds ups → joined (climb s used i ws ups).tower.level ≡ joined (placed_of ws)
   joined-climb s used i ws [] olds e o =
-      ap (λ (ps : List (Placed V)). joined ps) (only_new s used i ws) ∙ joined-changes s used i (ws ∷ []) ∙ ap (λ (vs : List (Worked V)). joined (placed_of vs)) (top_is ws)
+      ap (λ (ps : List (Placed V)). joined ps) (only_new s used i ws) ∙ joined-changes s used i (ws ∷ []) ∙ ap (λ (vs : List (Updated V)). joined (placed_of vs)) (top_is ws)
   joined-climb s used i ws (ps ∷ ups) olds e o =
-      joined-family_changes s used i (families ps ws) ∙ ap (λ (vs : List (Worked V)). joined (placed_of vs)) (families-joined ps ws (o.0.linked ∙ sym e))
+      joined-family_changes s used i (families ps ws) ∙ ap (λ (vs : List (Updated V)). joined (placed_of vs)) (families-joined ps ws (o.0.linked ∙ sym e))
 
   -- and its first low key
-  pub next_low-climb : (s : Settings) (used : List ℕ) (i : ℕ) (ws : List (Worked V)) (ups : List (List (Placed ℕ))) (olds : List (Placed V)) → names (placed_of ws) ≡ names olds → Stacked olds ups → next_low (climb s used i ws ups).tower.level None ≡ next_low olds None
+  pub next_low-climb : (s : Settings) (used : List ℕ) (i : ℕ) (ws : List (Updated V)) (ups : List (List (Placed ℕ))) (olds : List (Placed V)) → names (placed_of ws) ≡ names olds → Stacked olds ups → next_low (climb s used i ws ups).tower.level None ≡ next_low olds None
   next_low-climb s used i ws [] olds e o =
-      ap (λ (ps : List (Placed V)). next_low ps None) (only_new s used i ws) ∙ next_low-changes s used i (ws ∷ []) None ∙ ap (λ (vs : List (Worked V)). next_low (placed_of vs) None) (top_is ws) ∙ next_low-same (placed_of ws) olds None e
+      ap (λ (ps : List (Placed V)). next_low ps None) (only_new s used i ws) ∙ next_low-changes s used i (ws ∷ []) None ∙ ap (λ (vs : List (Updated V)). next_low (placed_of vs) None) (top_is ws) ∙ next_low-same (placed_of ws) olds None e
   next_low-climb s used i ws (ps ∷ ups) olds e o =
-      next_low-family_changes s used i (families ps ws) None ∙ ap (λ (vs : List (Worked V)). next_low (placed_of vs) None) (families-joined ps ws (o.0.linked ∙ sym e)) ∙ next_low-same (placed_of ws) olds None e
+      next_low-family_changes s used i (families ps ws) None ∙ ap (λ (vs : List (Updated V)). next_low (placed_of vs) None) (families-joined ps ws (o.0.linked ∙ sym e)) ∙ next_low-same (placed_of ws) olds None e
 
   one_page_begins : (ps : List (Placed V)) → length ps ≡ 1 → (low : List ℕ) × (next_low ps None ≡ Some low)
   one_page_begins [] e = absurd (omega arith)
   one_page_begins (p ∷ ps) e = (p.page.low, refl)
 
-  pub tiled-top : (s : Settings) (used : List ℕ) (i : ℕ) (ws : List (Worked V)) → 0 < s.fan → Tiled (placed_of ws) None → Tiled (all_new (changes s used i (ws ∷ []) ∷ [])) None
+  pub tiled-top : (s : Settings) (used : List ℕ) (i : ℕ) (ws : List (Updated V)) → 0 < s.fan → Tiled (placed_of ws) None → Tiled (all_new (changes s used i (ws ∷ []) ∷ [])) None
   tiled-top s used i ws z h =
-      let t : Tiled (placed_of (flat (ws ∷ []))) None = subst (λ (vs : List (Worked V)). Tiled (placed_of vs) None) (sym (top_is ws)) h in
+      let t : Tiled (placed_of (flat (ws ∷ []))) None = subst (λ (vs : List (Updated V)). Tiled (placed_of vs) None) (sym (top_is ws)) h in
       subst (λ (ps : List (Placed V)). Tiled ps None) (sym (only_new s used i ws)) (tiled-changes s used i (ws ∷ []) None z t)
 
-headed-climb : (s : Settings) (used : List ℕ) (i : ℕ) (ws : List (Worked ℕ)) (olds : List (Placed ℕ)) (ups : List (List (Placed ℕ))) → 0 < s.fan → names (placed_of ws) ≡ names olds → Stacked olds ups → AllHeaded (placed_of ws) → AllHeaded (climb s used i ws ups).tower.level
+headed-climb : (s : Settings) (used : List ℕ) (i : ℕ) (ws : List (Updated ℕ)) (olds : List (Placed ℕ)) (ups : List (List (Placed ℕ))) → 0 < s.fan → names (placed_of ws) ≡ names olds → Stacked olds ups → AllHeaded (placed_of ws) → AllHeaded (climb s used i ws ups).tower.level
 headed-climb s used i ws olds [] z e o h =
-    let a : AllHeaded (placed_of (flat (ws ∷ []))) = subst (λ (vs : List (Worked ℕ)). AllHeaded (placed_of vs)) (sym (top_is ws)) h in
+    let a : AllHeaded (placed_of (flat (ws ∷ []))) = subst (λ (vs : List (Updated ℕ)). AllHeaded (placed_of vs)) (sym (top_is ws)) h in
     subst (λ (ps : List (Placed ℕ)). AllHeaded ps) (sym (only_new s used i ws)) (headed-changes s used i (ws ∷ []) z a)
 headed-climb s used i ws olds (ps ∷ ups) z e o h =
-    headed-family_changes s used i (families ps ws) z (subst (λ (vs : List (Worked ℕ)). AllHeaded (placed_of vs)) (sym (families-joined ps ws (o.0.linked ∙ sym e))) h)
+    headed-family_changes s used i (families ps ws) z (subst (λ (vs : List (Updated ℕ)). AllHeaded (placed_of vs)) (sym (families-joined ps ws (o.0.linked ∙ sym e))) h)
 
 -- ---- all levels
 
 -- a climb gives tiled levels, each the parents of the one below
-pub stacked-climb : {V : Type 0} (s : Settings) (used : List ℕ) (i : ℕ) (ws : List (Worked V)) (olds : List (Placed V)) (ups : List (List (Placed ℕ))) → 1 < s.fan → names (placed_of ws) ≡ names olds → Stacked olds ups → Tiled (placed_of ws) None
+pub stacked-climb : {V : Type 0} (s : Settings) (used : List ℕ) (i : ℕ) (ws : List (Updated V)) (olds : List (Placed V)) (ups : List (List (Placed ℕ))) → 1 < s.fan → names (placed_of ws) ≡ names olds → Stacked olds ups → Tiled (placed_of ws) None
     → Tiled (climb s used i ws ups).tower.level None × Stacked (climb s used i ws ups).tower.level (climb s used i ws ups).tower.above
 stacked-climb {V} s used i ws olds [] f e o h =
     let z : 0 < s.fan = omega arith in
@@ -111,13 +111,13 @@ stacked-climb {V} s used i ws olds (ps ∷ ups) f e o h =
     let z : 0 < s.fan = omega arith in
     let linked : joined ps ≡ names (placed_of ws) = o.0.linked ∙ sym e in
     let css : List (List (Change V)) = family_changes s used i (families ps ws) in
-    let vs : List (Worked ℕ) = worked_parents s ps (map terms css) in
+    let vs : List (Updated ℕ) = updated_parents s ps (map terms css) in
     let j : ℕ = i + length (all_fresh css) in
     let termed = parents_termed s used i ps ws z linked o.0.headed h in
-    let named : names (placed_of vs) ≡ names ps = names-worked_parents s ps (map terms css) in
-    let upper = stacked-climb s used j vs ps ups f named o.1 (tiled-worked_parents s ps (map terms css) None o.0.tiled termed.0) in
+    let named : names (placed_of vs) ≡ names ps = names-updated_parents s ps (map terms css) in
+    let upper = stacked-climb s used j vs ps ups f named o.1 (tiled-updated_parents s ps (map terms css) None o.0.tiled termed.0) in
     let links : joined (climb s used j vs ups).tower.level ≡ names (all_new css) = joined-climb s used j vs ups ps named o.1 ∙ parents_link s used i ps ws None z linked h in
-    let level : Tiled (placed_of (flat (families ps ws))) None = subst (λ (xs : List (Worked V)). Tiled (placed_of xs) None) (sym (families-joined ps ws linked)) h in (
+    let level : Tiled (placed_of (flat (families ps ws))) None = subst (λ (xs : List (Updated V)). Tiled (placed_of xs) None) (sym (families-joined ps ws linked)) h in (
       tiled-family_changes s used i (families ps ws) None z level,
       (record { linked = links; headed = headed-climb s used j vs ps ups z named o.1 termed.1; tiled = upper.0 }, upper.1),
     )

@@ -18,7 +18,7 @@ use Rattle.mapping.specs.Proper.{next_low, Tiled, Stacked}
 use Rattle.mapping.specs.Table.{Mapping, page_of}
 use Rattle.mapping.specs.TreeInMemory.{TreeInMemory}
 use Rattle.mapping.proofs.Joined.{next_joined}
-use Rattle.mapping.proofs.TileLemmas.{Names, next_low-parents, joined-append, range-names, one_page, page_for}
+use Rattle.mapping.proofs.TileLemmas.{Separators, next_low-parents, joined-append, range-names, one_page, page_for}
 use Rattle.climb_plan.specs.Rewriting.{pids_for, AreParents}
 
 -- a number of levels above these pages, the pid is that of the page in whose range the key lies
@@ -66,7 +66,7 @@ module _ (k : List ℕ) where
   child_pid_for : (xs ys : List (Placed ℕ)) (p : Placed ℕ) (ps : List (Placed ℕ)) (child : ℕ) → joined (xs ++ p ∷ ys) ≡ names ps → AllByRecursion (λ q. IsHeaded 1 q.page) ys → Tiled ps None → next_low ps None ≡ Some [] → is_within p.page.low (next_low ys None) k ≡ true
       → ((end : Option (List ℕ)) → is_before end k ≡ true → pids_of (children (entries p) end) ≡ child ∷ []) → pids_for ps k ≡ child ∷ []
   child_pid_for xs ys p ps child l hd t f w has =
-      let later : Names = joined ys in
+      let later : Separators = joined ys in
       let end : Option (List ℕ) = next_key later None in
       let same : end ≡ next_low ys None = next_joined ys None hd in
       let inside : is_before end k ≡ true = ap (λ (e : Option (List ℕ)). is_before e k) same ∙ (within_parts p.page.low (next_low ys None) k w).1 in
@@ -74,8 +74,8 @@ module _ (k : List ℕ) where
       let own : List Place = children (entries p) end in
       let after : List Place = children later None in
       let parts : pids_for ps k ≡ pids_of before ++ child ∷ pids_of after =
-      ap (λ (ns : Names). pids_of (children ns None)) (sym l)
-      ∙ ap (λ (ns : Names). pids_of (children ns None)) (joined-append xs (p ∷ ys))
+      ap (λ (ns : Separators). pids_of (children ns None)) (sym l)
+      ∙ ap (λ (ns : Separators). pids_of (children ns None)) (joined-append xs (p ∷ ys))
       ∙ ap (λ (ats : List Place). pids_of ats) (children-append (joined xs) (entries p ++ later) None)
       ∙ pids_of-append before (children (entries p ++ later) None)
       ∙ ap (λ (ats : List Place). pids_of before ++ pids_of ats) (children-append (entries p) later None)

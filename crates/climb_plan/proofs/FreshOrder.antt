@@ -14,8 +14,8 @@ use Rattle.mapping.specs.Proper.{AreRisingPids, IsProper}
 use Rattle.mapping.proofs.PidLemmas.{all_among, unused-is_free}
 use Rattle.mapping.proofs.TableLemmas.{all_pids_hold}
 use Rattle.page_runs.specs.NetRun.{net_run}
-use Rattle.split_plan.specs.WorkedLevel.{worked_leaves}
-use Rattle.split_plan.proofs.RunLemmas.{names-worked_leaves}
+use Rattle.split_plan.specs.UpdatedLevel.{updated_leaves}
+use Rattle.split_plan.proofs.RunLemmas.{names-updated_leaves}
 use Rattle.split_plan.proofs.Renewed.{Renewed}
 use Rattle.split_plan.proofs.Renewed.Renewed.{done, keep, drop_one, draw}
 use Rattle.climb_plan.specs.Climb.{kept_levels}
@@ -62,7 +62,7 @@ module _ {A : Type 0} (s : Settings) (t : Tree) (cs : List (Command A)) (proper 
       let level : List (Placed (List ℕ)) = (batch_climb s t cs).tower.level in
       let ups : List (List (Placed ℕ)) = (batch_climb s t cs).tower.above in
       let in_use : AllByRecursion (λ n. is_among n used ≡ true) (all_pids l.level l.above) = all_pids_hold (λ n. is_among n used ≡ true) t.pages (all_among used) l proper.held in
-      let renewed = renewed-climb s used 0 (worked_leaves s run l.level) l.level l.above (names-worked_leaves s run l.level) proper.levels.stacked in
+      let renewed = renewed-climb s used 0 (updated_leaves s run l.level) l.level l.above (names-updated_leaves s run l.level) proper.levels.stacked in
       let drawn = drawn_in_order renewed.1 proper.tree.rising in_use in
       let rest = kept_is_first ups in
       let first : List ℕ = all_pids level (kept_levels ups) in

@@ -16,13 +16,13 @@ use Rattle.mapping.proofs.PidLemmas.{all_among}
 use Rattle.mapping.proofs.TableLemmas.{all_pids_hold}
 use Rattle.mapping.proofs.TableOfLevels.{holds_among}
 use Rattle.page_runs.specs.NetRun.{net_run}
-use Rattle.page_runs.specs.Worked.{Worked, is_thin}
+use Rattle.page_runs.specs.Updated.{Updated, is_thin}
 use Rattle.split_plan.specs.Cut.{cut}
 use Rattle.split_plan.proofs.CutLemmas.{cut-joined}
 use Rattle.split_plan.specs.Groups.{groups}
 use Rattle.split_plan.proofs.GroupLemmas.{groups-joined}
-use Rattle.split_plan.specs.WorkedLevel.{worked_leaves, worked_parents, placed_of}
-use Rattle.split_plan.proofs.RunLemmas.{names-worked_leaves, names-worked_parents}
+use Rattle.split_plan.specs.UpdatedLevel.{updated_leaves, updated_parents, placed_of}
+use Rattle.split_plan.proofs.RunLemmas.{names-updated_leaves, names-updated_parents}
 use Rattle.split_plan.specs.Change.{Change, fresh_pages, replacements, is_rewritten, remade, fresh, changes, family_changes, new_of, fresh_of, all_new, all_fresh, outdated, all_outdated}
 use Rattle.split_plan.proofs.ChangeLemmas.{remade_by, joined-fresh_pages}
 use Rattle.split_plan.proofs.PidLemmas.{pids-placed_of}
@@ -35,7 +35,7 @@ use Rattle.climb_plan.proofs.Kept.{lone_is_over_one, left, kept_and_left, lone-l
 module _ (P : ℕ → Type 0) where
   -- ---- a property of the pids of pages holds for the outdated ones, and for the first pid of the pages that replace them
 
-  abbrev AllHold : {V : Type 0} → List (Worked V) → Type 0
+  abbrev AllHold : {V : Type 0} → List (Updated V) → Type 0
   AllHold ws = AllByRecursion P (pids (placed_of ws))
 
   abbrev FirstHolds : {V : Type 0} → List (Placed V) → Type 0
@@ -43,21 +43,21 @@ module _ (P : ℕ → Type 0) where
   FirstHolds (p ∷ ps) = P p.pid
 
   module _ {V : Type 0} where
-    hold_apart : (g h : List (Worked V)) → AllHold (g ++ h) → AllHold g × AllHold h
+    hold_apart : (g h : List (Updated V)) → AllHold (g ++ h) → AllHold g × AllHold h
     hold_apart g h a = all_apart P (pids (placed_of g)) (pids (placed_of h)) (subst (λ (ns : List ℕ). AllByRecursion P ns) (pids-placed_of g h) a)
 
-    hold_groups : (f : List (Worked V)) → AllHold f → AllHold (flat (groups is_thin f))
-    hold_groups f a = subst (λ (ws : List (Worked V)). AllHold ws) (sym (groups-joined is_thin f)) a
+    hold_groups : (f : List (Updated V)) → AllHold f → AllHold (flat (groups is_thin f))
+    hold_groups f a = subst (λ (ws : List (Updated V)). AllHold ws) (sym (groups-joined is_thin f)) a
 
     first-append : (xs ys : List (Placed V)) → FirstHolds xs → FirstHolds ys → FirstHolds (xs ++ ys)
     first-append [] ys a b = b
     first-append (x ∷ xs) ys a b = a
 
-    passed_by : (b : Bool) (w : Worked V) (ws : List (Worked V)) → P w.placed.pid → AllByRecursion P (map (λ v. v.placed.pid) ws) → AllByRecursion P (map (λ v. v.placed.pid) (cond b (w ∷ ws) ws))
+    passed_by : (b : Bool) (w : Updated V) (ws : List (Updated V)) → P w.placed.pid → AllByRecursion P (map (λ v. v.placed.pid) ws) → AllByRecursion P (map (λ v. v.placed.pid) (cond b (w ∷ ws) ws))
     passed_by true w ws h a = (h, a)
     passed_by false w ws h a = a
 
-    hold_passed : (test : Worked V → Bool) (ws : List (Worked V)) → AllHold ws → AllByRecursion P (map (λ v. v.placed.pid) (filter test ws))
+    hold_passed : (test : Updated V → Bool) (ws : List (Updated V)) → AllHold ws → AllByRecursion P (map (λ v. v.placed.pid) (filter test ws))
     hold_passed test [] a = tt
     hold_passed test (w ∷ ws) a = passed_by (test w) w (filter test ws) a.0 (hold_passed test ws a.1)
 
@@ -65,15 +65,15 @@ module _ (P : ℕ → Type 0) where
     first_replaced used i p [] h = tt
     first_replaced used i p (b ∷ bs) h = h
 
-    first_by : (b : Bool) (s : Settings) (used : List ℕ) (i : ℕ) (w : Worked V) (ws : List (Worked V)) → P w.placed.pid → FirstHolds (remade_by b s used i w ws)
+    first_by : (b : Bool) (s : Settings) (used : List ℕ) (i : ℕ) (w : Updated V) (ws : List (Updated V)) → P w.placed.pid → FirstHolds (remade_by b s used i w ws)
     first_by true s used i w ws h = first_replaced used i w.placed (cut s.fan (joined (placed_of (w ∷ ws)))) h
     first_by false s used i w ws h = h
 
-    first-remade : (s : Settings) (used : List ℕ) (i : ℕ) (g : List (Worked V)) → AllHold g → FirstHolds (remade s used i g)
+    first-remade : (s : Settings) (used : List ℕ) (i : ℕ) (g : List (Updated V)) → AllHold g → FirstHolds (remade s used i g)
     first-remade s used i [] a = tt
     first-remade s used i (w ∷ ws) a = first_by (is_rewritten (w ∷ ws)) s used i w ws a.0
 
-    hold-changes : (s : Settings) (used : List ℕ) (i : ℕ) (gs : List (List (Worked V))) → AllHold (flat gs) → AllByRecursion P (flat_map outdated (changes s used i gs)) × FirstHolds (new_of (changes s used i gs))
+    hold-changes : (s : Settings) (used : List ℕ) (i : ℕ) (gs : List (List (Updated V))) → AllHold (flat gs) → AllByRecursion P (flat_map outdated (changes s used i gs)) × FirstHolds (new_of (changes s used i gs))
     hold-changes s used i [] a = (tt, tt)
     hold-changes s used i (g ∷ gs) a =
         let c : Change V = record { members = g; pages = remade s used i g } in
@@ -82,7 +82,7 @@ module _ (P : ℕ → Type 0) where
         let rest = hold-changes s used (i + length (fresh c)) gs b.1 in
         (all-append P (outdated c) (flat_map outdated later) (hold_passed (λ w. w.replaced || is_rewritten g) g b.0) rest.0, first-append c.pages (new_of later) (first-remade s used i g b.0) rest.1)
 
-    hold-family_changes : (s : Settings) (used : List ℕ) (i : ℕ) (fs : List (List (Worked V))) → AllHold (flat fs) → AllByRecursion P (all_outdated (family_changes s used i fs)) × FirstHolds (all_new (family_changes s used i fs))
+    hold-family_changes : (s : Settings) (used : List ℕ) (i : ℕ) (fs : List (List (Updated V))) → AllHold (flat fs) → AllByRecursion P (all_outdated (family_changes s used i fs)) × FirstHolds (all_new (family_changes s used i fs))
     hold-family_changes s used i [] a = (tt, tt)
     hold-family_changes s used i (f ∷ fs) a =
         let cs : List (Change V) = changes s used i (groups is_thin f) in
@@ -123,13 +123,13 @@ module _ (P : ℕ → Type 0) where
     pub first : FirstHolds c.tower.level
     pub above : AllByRecursion HoldsIfLone c.tower.above
 
-  hold-climb : {V : Type 0} (s : Settings) (used : List ℕ) (i : ℕ) (ws : List (Worked V)) (olds : List (Placed V)) (ups : List (List (Placed ℕ))) → names (placed_of ws) ≡ names olds → Stacked olds ups → AllByRecursion P (all_pids olds ups) → Hold (climb s used i ws ups)
+  hold-climb : {V : Type 0} (s : Settings) (used : List ℕ) (i : ℕ) (ws : List (Updated V)) (olds : List (Placed V)) (ups : List (List (Placed ℕ))) → names (placed_of ws) ≡ names olds → Stacked olds ups → AllByRecursion P (all_pids olds ups) → Hold (climb s used i ws ups)
   hold-climb {V} s used i ws olds [] e o a =
       let css : List (List (Change V)) = changes s used i (ws ∷ []) ∷ [] in
       let top : List (Placed V) = all_new css in
       let own : AllByRecursion P (pids olds) = (all_apart P (pids olds) [] a).0 in
       let mine : AllHold ws = subst (λ (ns : List ℕ). AllByRecursion P ns) (sym (same_pids (placed_of ws) olds e)) own in
-      let r = hold-changes s used i (ws ∷ []) (subst (λ (vs : List (Worked V)). AllHold vs) (sym (append-nil ws)) mine) in
+      let r = hold-changes s used i (ws ∷ []) (subst (λ (vs : List (Updated V)). AllHold vs) (sym (append-nil ws)) mine) in
       record {
         outdated = all-append P (flat_map outdated (changes s used i (ws ∷ []))) [] r.0 tt;
         first = first-append (new_of (changes s used i (ws ∷ []))) [] r.1 tt;
@@ -138,12 +138,12 @@ module _ (P : ℕ → Type 0) where
   hold-climb {V} s used i ws olds (ps ∷ ups) e o a =
       let linked : joined ps ≡ names (placed_of ws) = o.0.linked ∙ sym e in
       let css : List (List (Change V)) = family_changes s used i (families ps ws) in
-      let vs : List (Worked ℕ) = worked_parents s ps (map terms css) in
+      let vs : List (Updated ℕ) = updated_parents s ps (map terms css) in
       let j : ℕ = i + length (all_fresh css) in
       let b = all_apart P (pids olds) (flat_map pids (ps ∷ ups)) a in
       let mine : AllHold ws = subst (λ (ns : List ℕ). AllByRecursion P ns) (sym (same_pids (placed_of ws) olds e)) b.0 in
-      let r = hold-family_changes s used i (families ps ws) (subst (λ (xs : List (Worked V)). AllHold xs) (sym (families-joined ps ws linked)) mine) in
-      let up = hold-climb s used j vs ps ups (names-worked_parents s ps (map terms css)) o.1 b.1 in
+      let r = hold-family_changes s used i (families ps ws) (subst (λ (xs : List (Updated V)). AllHold xs) (sym (families-joined ps ws linked)) mine) in
+      let up = hold-climb s used j vs ps ups (names-updated_parents s ps (map terms css)) o.1 b.1 in
       record {
         outdated = all-append P (all_outdated css) (climb s used j vs ups).outdated r.0 up.outdated;
         first = r.1;
@@ -169,6 +169,6 @@ outdated_in_use s t cs pid proper h =
     let l : Levels = levels_of t in
     let run : List (List ℕ × _) = net_run (contents t) cs in
     let in_use : AllByRecursion P (all_pids l.level l.above) = all_pids_hold P t.pages (all_among used) l proper.held in
-    let r = hold-climb P s used 0 (worked_leaves s run l.level) l.level l.above (names-worked_leaves s run l.level) proper.levels.stacked in_use in
+    let r = hold-climb P s used 0 (updated_leaves s run l.level) l.level l.above (names-updated_leaves s run l.level) proper.levels.stacked in_use in
     let all : AllByRecursion P (outdated_pids s t cs) = all-append P (batch_climb s t cs).outdated (shrunk_pids (batch_climb s t cs).tower.above) r.outdated (hold-shrunk_levels P (batch_climb s t cs).tower.above r.above) in
     holds_among P pid (outdated_pids s t cs) all h

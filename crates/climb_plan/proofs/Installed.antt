@@ -5,17 +5,17 @@ use Rattle.index_page.specs.Page.{Page, PageOfKind}
 use Rattle.mapping.specs.Levels.{pids}
 use Rattle.mapping.specs.FreshPids.{is_among}
 use Rattle.mapping.specs.Table.{Mapping, place_of}
-use Rattle.page_runs.specs.Worked.{Worked}
+use Rattle.page_runs.specs.Updated.{Updated}
 use Rattle.split_plan.specs.Change.{Change, new_of}
 use Rattle.split_plan.specs.Terms.{freed_of}
 use Rattle.climb_plan.specs.Changing.{AreHome}
 
 -- the pids of pages after their runs
-abbrev pub worked_pids : {V : Type 0} → List (Worked V) → List ℕ
-worked_pids ws = map (λ w. w.placed.pid) ws
+abbrev pub updated_pids : {V : Type 0} → List (Updated V) → List ℕ
+updated_pids ws = map (λ w. w.placed.pid) ws
 
 -- those that were replaced
-abbrev pub replaced_among : {V : Type 0} → List (Worked V) → List (Worked V)
+abbrev pub replaced_among : {V : Type 0} → List (Updated V) → List (Updated V)
 replaced_among ws = filter (λ w. w.replaced) ws
 
 -- from one table to the next the new pages of changes were put in, and their freed pages lost their places; everything else is unchanged

@@ -14,15 +14,15 @@ use Rattle.mapping.specs.Table.{Mapping, place_of}
 use Rattle.mapping.specs.Proper.{Distinct}
 use Rattle.mapping.proofs.LevelLemmas.{pids-append, values_of-names}
 use Rattle.mapping.proofs.PidLemmas.{among_either, among_either_by, among_left, among_right, among_apart, later_among}
-use Rattle.page_runs.specs.Worked.{Worked}
-use Rattle.split_plan.specs.WorkedLevel.{placed_of}
+use Rattle.page_runs.specs.Updated.{Updated}
+use Rattle.split_plan.specs.UpdatedLevel.{placed_of}
 use Rattle.split_plan.specs.Change.{Change, is_rewritten, remade, changes, new_of, fresh_of}
 use Rattle.split_plan.specs.Terms.{freed_of}
 use Rattle.split_plan.proofs.ChangeLemmas.{placed_of-append, remade_begins}
 use Rattle.climb_plan.specs.Changing.{AreHome}
 use Rattle.climb_plan.proofs.ChangingGroups.{idle_group, AreAlike, alike_rewritten}
-use Rattle.climb_plan.proofs.ChangingOutdated.{worked_pids-placed, worked_pids-append, among-joined}
-use Rattle.climb_plan.proofs.Installed.{worked_pids, IsInstalled}
+use Rattle.climb_plan.proofs.ChangingOutdated.{updated_pids-placed, updated_pids-append, among-joined}
+use Rattle.climb_plan.proofs.Installed.{updated_pids, IsInstalled}
 
 -- ---- numbers among others
 
@@ -82,10 +82,10 @@ module _ {V : Type 0} where
   -- ---- groups that are not rewritten
 
   -- the members of the groups that stay as they are
-  abbrev pub staying : List (List (Worked V)) → List (Worked V)
+  abbrev pub staying : List (List (Updated V)) → List (Updated V)
   staying gs = flat (filter (λ g. not (is_rewritten g)) gs)
 
-  made_by : (b : Bool) (P : Placed V → Type 0) (s : Settings) (used : List ℕ) (i : ℕ) (g : List (Worked V)) (gs : List (List (Worked V))) → is_rewritten g ≡ b
+  made_by : (b : Bool) (P : Placed V → Type 0) (s : Settings) (used : List ℕ) (i : ℕ) (g : List (Updated V)) (gs : List (List (Updated V))) → is_rewritten g ≡ b
       → ((j : ℕ) → AllByRecursion P (new_of (changes s used j (filter is_rewritten gs))) → AllByRecursion P (placed_of (staying gs)) → AllByRecursion P (new_of (changes s used j gs)))
       → AllByRecursion P (new_of (changes s used i (cond b (g ∷ filter is_rewritten gs) (filter is_rewritten gs)))) → AllByRecursion P (placed_of (flat (cond (not b) (g ∷ filter (λ g. not (is_rewritten g)) gs) (filter (λ g. not (is_rewritten g)) gs))))
       → AllByRecursion P (new_of (changes s used i (g ∷ gs)))
@@ -105,98 +105,98 @@ module _ {V : Type 0} where
       all-append P here (new_of (changes s used (i + length (drop 1 here)) gs)) first later
 
   -- the pages of a level are those that are made of the groups that are rewritten, and the members of the others
-  pub all_made : (P : Placed V → Type 0) (s : Settings) (used : List ℕ) (i : ℕ) (gs : List (List (Worked V))) → AllByRecursion P (new_of (changes s used i (filter is_rewritten gs))) → AllByRecursion P (placed_of (staying gs)) → AllByRecursion P (new_of (changes s used i gs))
+  pub all_made : (P : Placed V → Type 0) (s : Settings) (used : List ℕ) (i : ℕ) (gs : List (List (Updated V))) → AllByRecursion P (new_of (changes s used i (filter is_rewritten gs))) → AllByRecursion P (placed_of (staying gs)) → AllByRecursion P (new_of (changes s used i gs))
   all_made P s used i [] h k = tt
   all_made P s used i (g ∷ gs) h k = made_by (is_rewritten g) P s used i g gs refl (λ j. all_made P s used j gs) h k
 
   -- ---- the pids of groups that are rewritten, and of the others
 
   -- what passes a test is among all
-  among_passed : (test : List (Worked V) → Bool) (gs : List (List (Worked V))) (n : ℕ) → is_among n (worked_pids (flat (filter test gs))) ≡ true → is_among n (worked_pids (flat gs)) ≡ true
+  among_passed : (test : List (Updated V) → Bool) (gs : List (List (Updated V))) (n : ℕ) → is_among n (updated_pids (flat (filter test gs))) ≡ true → is_among n (updated_pids (flat gs)) ≡ true
   among_passed test [] n e = e
   among_passed test (g ∷ gs) n e =
       let rest = among_passed test gs n in
-      let goal : is_among n (worked_pids g ++ worked_pids (flat gs)) ≡ true = passed_by (test g) rest e in
-      subst (λ (ns : List ℕ). is_among n ns ≡ true) (sym (worked_pids-append g (flat gs))) goal
+      let goal : is_among n (updated_pids g ++ updated_pids (flat gs)) ≡ true = passed_by (test g) rest e in
+      subst (λ (ns : List ℕ). is_among n ns ≡ true) (sym (updated_pids-append g (flat gs))) goal
     where
-      passed_by : (b : Bool) → (is_among n (worked_pids (flat (filter test gs))) ≡ true → is_among n (worked_pids (flat gs)) ≡ true) → is_among n (worked_pids (flat (cond b (g ∷ filter test gs) (filter test gs)))) ≡ true → is_among n (worked_pids g ++ worked_pids (flat gs)) ≡ true
+      passed_by : (b : Bool) → (is_among n (updated_pids (flat (filter test gs))) ≡ true → is_among n (updated_pids (flat gs)) ≡ true) → is_among n (updated_pids (flat (cond b (g ∷ filter test gs) (filter test gs)))) ≡ true → is_among n (updated_pids g ++ updated_pids (flat gs)) ≡ true
       passed_by true ih x =
-          elim (among_either n (worked_pids g) (worked_pids (flat (filter test gs))) (subst (λ (ns : List ℕ). is_among n ns ≡ true) (worked_pids-append g (flat (filter test gs))) x)) [
-            | inl y ↦ among_left n (worked_pids g) (worked_pids (flat gs)) y
-            | inr z ↦ among_right n (worked_pids g) (worked_pids (flat gs)) (ih z)
+          elim (among_either n (updated_pids g) (updated_pids (flat (filter test gs))) (subst (λ (ns : List ℕ). is_among n ns ≡ true) (updated_pids-append g (flat (filter test gs))) x)) [
+            | inl y ↦ among_left n (updated_pids g) (updated_pids (flat gs)) y
+            | inr z ↦ among_right n (updated_pids g) (updated_pids (flat gs)) (ih z)
           ]
-      passed_by false ih x = among_right n (worked_pids g) (worked_pids (flat gs)) (ih x)
+      passed_by false ih x = among_right n (updated_pids g) (updated_pids (flat gs)) (ih x)
 
-  within_apart : (test : List (Worked V) → Bool) (ms : List ℕ) (gs : List (List (Worked V))) → AreApart ms (worked_pids (flat gs)) → AreApart ms (worked_pids (flat (filter test gs)))
-  within_apart test ms gs h n e = false_from_ne_true (is_among n (worked_pids (flat (filter test gs)))) (λ f. let a = among_passed test gs n f in let b : is_among n (worked_pids (flat gs)) ≡ false = h n e in absurd (cc))
+  within_apart : (test : List (Updated V) → Bool) (ms : List ℕ) (gs : List (List (Updated V))) → AreApart ms (updated_pids (flat gs)) → AreApart ms (updated_pids (flat (filter test gs)))
+  within_apart test ms gs h n e = false_from_ne_true (is_among n (updated_pids (flat (filter test gs)))) (λ f. let a = among_passed test gs n f in let b : is_among n (updated_pids (flat gs)) ≡ false = h n e in absurd (cc))
 
-  parts_by : (b : Bool) (g : List (Worked V)) (ks rs : List (List (Worked V))) → AreApart (worked_pids g) (worked_pids (flat ks)) → AreApart (worked_pids g) (worked_pids (flat rs)) → AreApart (worked_pids (flat ks)) (worked_pids (flat rs))
-      → AreApart (worked_pids (flat (cond (not b) (g ∷ ks) ks))) (worked_pids (flat (cond b (g ∷ rs) rs)))
+  parts_by : (b : Bool) (g : List (Updated V)) (ks rs : List (List (Updated V))) → AreApart (updated_pids g) (updated_pids (flat ks)) → AreApart (updated_pids g) (updated_pids (flat rs)) → AreApart (updated_pids (flat ks)) (updated_pids (flat rs))
+      → AreApart (updated_pids (flat (cond (not b) (g ∷ ks) ks))) (updated_pids (flat (cond b (g ∷ rs) rs)))
   parts_by true g ks rs a c h =
-      let back = joined_apart (worked_pids g) (worked_pids (flat rs)) (worked_pids (flat ks)) a (turned (worked_pids (flat ks)) (worked_pids (flat rs)) h) in
-      turned (worked_pids (flat (g ∷ rs))) (worked_pids (flat ks)) (subst (λ (ns : List ℕ). AreApart ns (worked_pids (flat ks))) (sym (worked_pids-append g (flat rs))) back)
+      let back = joined_apart (updated_pids g) (updated_pids (flat rs)) (updated_pids (flat ks)) a (turned (updated_pids (flat ks)) (updated_pids (flat rs)) h) in
+      turned (updated_pids (flat (g ∷ rs))) (updated_pids (flat ks)) (subst (λ (ns : List ℕ). AreApart ns (updated_pids (flat ks))) (sym (updated_pids-append g (flat rs))) back)
   parts_by false g ks rs a c h =
-      let front = joined_apart (worked_pids g) (worked_pids (flat ks)) (worked_pids (flat rs)) c h in
-      subst (λ (ns : List ℕ). AreApart ns (worked_pids (flat rs))) (sym (worked_pids-append g (flat ks))) front
+      let front = joined_apart (updated_pids g) (updated_pids (flat ks)) (updated_pids (flat rs)) c h in
+      subst (λ (ns : List ℕ). AreApart ns (updated_pids (flat rs))) (sym (updated_pids-append g (flat ks))) front
 
   -- if the pids are distinct, no member of a group that stays is in one that is rewritten
-  staying_apart : (gs : List (List (Worked V))) → Distinct (worked_pids (flat gs)) → AreApart (worked_pids (staying gs)) (worked_pids (flat (filter is_rewritten gs)))
+  staying_apart : (gs : List (List (Updated V))) → Distinct (updated_pids (flat gs)) → AreApart (updated_pids (staying gs)) (updated_pids (flat (filter is_rewritten gs)))
   staying_apart [] d = λ n e. refl
   staying_apart (g ∷ gs) d =
-      let r = distinct_apart (worked_pids g) (worked_pids (flat gs)) (subst Distinct (worked_pids-append g (flat gs)) d) in
-      let stay : List (Worked V) → Bool = λ h. not (is_rewritten h) in
-      parts_by (is_rewritten g) g (filter stay gs) (filter is_rewritten gs) (within_apart stay (worked_pids g) gs r.0) (within_apart is_rewritten (worked_pids g) gs r.0) (staying_apart gs r.1)
+      let r = distinct_apart (updated_pids g) (updated_pids (flat gs)) (subst Distinct (updated_pids-append g (flat gs)) d) in
+      let stay : List (Updated V) → Bool = λ h. not (is_rewritten h) in
+      parts_by (is_rewritten g) g (filter stay gs) (filter is_rewritten gs) (within_apart stay (updated_pids g) gs r.0) (within_apart is_rewritten (updated_pids g) gs r.0) (staying_apart gs r.1)
 
   -- ---- the pids of the new pages
 
-  remade_pids : (s : Settings) (used : List ℕ) (i : ℕ) (w : Worked V) (ws : List (Worked V)) → pids (remade s used i (w ∷ ws)) ≡ w.placed.pid ∷ pids (drop 1 (remade s used i (w ∷ ws)))
+  remade_pids : (s : Settings) (used : List ℕ) (i : ℕ) (w : Updated V) (ws : List (Updated V)) → pids (remade s used i (w ∷ ws)) ≡ w.placed.pid ∷ pids (drop 1 (remade s used i (w ∷ ws)))
   remade_pids s used i w ws =
       let here : List (Placed V) = remade s used i (w ∷ ws) in
       sym (values_of-names here)
       ∙ ap (λ (ns : List (List ℕ × ℕ)). values_of ns) (remade_begins s used i w ws)
       ∙ ap (λ (ns : List ℕ). w.placed.pid ∷ ns) (values_of-names (drop 1 here))
 
-  not_new_here : (s : Settings) (used : List ℕ) (i n : ℕ) (g : List (Worked V)) → is_among n (worked_pids g) ≡ false → is_among n (pids (drop 1 (remade s used i g))) ≡ false → is_among n (pids (remade s used i g)) ≡ false
+  not_new_here : (s : Settings) (used : List ℕ) (i n : ℕ) (g : List (Updated V)) → is_among n (updated_pids g) ≡ false → is_among n (pids (drop 1 (remade s used i g))) ≡ false → is_among n (pids (remade s used i g)) ≡ false
   not_new_here s used i n [] h k = refl
   not_new_here s used i n (w ∷ ws) h k =
-      let first = or_parts (nat_eq n w.placed.pid) (is_among n (worked_pids ws)) h in
+      let first = or_parts (nat_eq n w.placed.pid) (is_among n (updated_pids ws)) h in
       let rest : List ℕ = pids (drop 1 (remade s used i (w ∷ ws))) in
       ap (λ (ns : List ℕ). is_among n ns) (remade_pids s used i w ws) ∙ or_from (nat_eq n w.placed.pid) (is_among n rest) first.0 k
 
-  not_freed_here : (n : ℕ) (g : List (Worked V)) → is_among n (worked_pids g) ≡ false → is_among n (pids (drop 1 (placed_of g))) ≡ false
+  not_freed_here : (n : ℕ) (g : List (Updated V)) → is_among n (updated_pids g) ≡ false → is_among n (pids (drop 1 (placed_of g))) ≡ false
   not_freed_here n [] h = refl
-  not_freed_here n (w ∷ ws) h = ap (λ (ns : List ℕ). is_among n ns) (sym (worked_pids-placed ws)) ∙ (or_parts (nat_eq n w.placed.pid) (is_among n (worked_pids ws)) h).1
+  not_freed_here n (w ∷ ws) h = ap (λ (ns : List ℕ). is_among n ns) (sym (updated_pids-placed ws)) ∙ (or_parts (nat_eq n w.placed.pid) (is_among n (updated_pids ws)) h).1
 
-  gone_here : (s : Settings) (used : List ℕ) (i n : ℕ) (g : List (Worked V)) → is_among n (worked_pids g) ≡ true → is_among n (pids (remade s used i g)) ≡ false → is_among n (pids (drop 1 (placed_of g))) ≡ true
+  gone_here : (s : Settings) (used : List ℕ) (i n : ℕ) (g : List (Updated V)) → is_among n (updated_pids g) ≡ true → is_among n (pids (remade s used i g)) ≡ false → is_among n (pids (drop 1 (placed_of g))) ≡ true
   gone_here s used i n [] h k = h
   gone_here s used i n (w ∷ ws) h k =
       let rest : List ℕ = pids (drop 1 (remade s used i (w ∷ ws))) in
       let first = or_parts (nat_eq n w.placed.pid) (is_among n rest) (ap (λ (ns : List ℕ). is_among n ns) (sym (remade_pids s used i w ws)) ∙ k) in
-      ap (λ (ns : List ℕ). is_among n ns) (sym (worked_pids-placed ws)) ∙ rest_of (nat_eq n w.placed.pid) (is_among n (worked_pids ws)) h first.0
+      ap (λ (ns : List ℕ). is_among n ns) (sym (updated_pids-placed ws)) ∙ rest_of (nat_eq n w.placed.pid) (is_among n (updated_pids ws)) h first.0
 
   -- a pid apart from the members' and from the fresh ones isn't a new page's
-  not_new : (s : Settings) (used : List ℕ) (i n : ℕ) (gs : List (List (Worked V))) → is_among n (worked_pids (flat gs)) ≡ false → is_among n (pids (fresh_of (changes s used i gs))) ≡ false → is_among n (pids (new_of (changes s used i gs))) ≡ false
+  not_new : (s : Settings) (used : List ℕ) (i n : ℕ) (gs : List (List (Updated V))) → is_among n (updated_pids (flat gs)) ≡ false → is_among n (pids (fresh_of (changes s used i gs))) ≡ false → is_among n (pids (new_of (changes s used i gs))) ≡ false
   not_new s used i n [] h k = refl
   not_new s used i n (g ∷ gs) h k =
       let here : List (Placed V) = remade s used i g in
       let later : List (Change V) = changes s used (i + length (drop 1 here)) gs in
-      let r = among_apart n (worked_pids g) (worked_pids (flat gs)) (ap (λ (ns : List ℕ). is_among n ns) (sym (worked_pids-append g (flat gs))) ∙ h) in
+      let r = among_apart n (updated_pids g) (updated_pids (flat gs)) (ap (λ (ns : List ℕ). is_among n ns) (sym (updated_pids-append g (flat gs))) ∙ h) in
       let q = among_apart n (pids (drop 1 here)) (pids (fresh_of later)) (ap (λ (ns : List ℕ). is_among n ns) (sym (pids-append (drop 1 here) (fresh_of later))) ∙ k) in
       ap (λ (ns : List ℕ). is_among n ns) (pids-append here (new_of later))
       ∙ not_among_from n (pids here) (pids (new_of later)) (not_new_here s used i n g r.0 q.0) (not_new s used (i + length (drop 1 here)) n gs r.1 q.1)
 
   -- nor a page's that is freed
-  not_freed : (s : Settings) (used : List ℕ) (i n : ℕ) (gs : List (List (Worked V))) → is_among n (worked_pids (flat gs)) ≡ false → is_among n (pids (freed_of (changes s used i gs))) ≡ false
+  not_freed : (s : Settings) (used : List ℕ) (i n : ℕ) (gs : List (List (Updated V))) → is_among n (updated_pids (flat gs)) ≡ false → is_among n (pids (freed_of (changes s used i gs))) ≡ false
   not_freed s used i n [] h = refl
   not_freed s used i n (g ∷ gs) h =
       let j : ℕ = i + length (drop 1 (remade s used i g)) in
       let later : List (Placed V) = freed_of (changes s used j gs) in
-      let r = among_apart n (worked_pids g) (worked_pids (flat gs)) (ap (λ (ns : List ℕ). is_among n ns) (sym (worked_pids-append g (flat gs))) ∙ h) in
+      let r = among_apart n (updated_pids g) (updated_pids (flat gs)) (ap (λ (ns : List ℕ). is_among n ns) (sym (updated_pids-append g (flat gs))) ∙ h) in
       ap (λ (ns : List ℕ). is_among n ns) (pids-append (drop 1 (placed_of g)) later)
       ∙ not_among_from n (pids (drop 1 (placed_of g))) (pids later) (not_freed_here n g r.0) (not_freed s used j n gs r.1)
 
   -- a member whose pid no new page has is freed
-  gone_is_freed : (s : Settings) (used : List ℕ) (i n : ℕ) (gs : List (List (Worked V))) → is_among n (worked_pids (flat gs)) ≡ true → is_among n (pids (new_of (changes s used i gs))) ≡ false → is_among n (pids (freed_of (changes s used i gs))) ≡ true
+  gone_is_freed : (s : Settings) (used : List ℕ) (i n : ℕ) (gs : List (List (Updated V))) → is_among n (updated_pids (flat gs)) ≡ true → is_among n (pids (new_of (changes s used i gs))) ≡ false → is_among n (pids (freed_of (changes s used i gs))) ≡ true
   gone_is_freed s used i n [] h k = h
   gone_is_freed s used i n (g ∷ gs) h k =
       let here : List (Placed V) = remade s used i g in
@@ -207,7 +207,7 @@ module _ {V : Type 0} where
       let freed_later : List ℕ = pids (freed_of later) in
       let e : pids (freed_of (changes s used i (g ∷ gs))) ≡ freed_here ++ freed_later = pids-append (drop 1 (placed_of g)) (freed_of later) in
       ap (λ (ns : List ℕ). is_among n ns) e
-      ∙ elim (among_either n (worked_pids g) (worked_pids (flat gs)) (ap (λ (ns : List ℕ). is_among n ns) (sym (worked_pids-append g (flat gs))) ∙ h)) [
+      ∙ elim (among_either n (updated_pids g) (updated_pids (flat gs)) (ap (λ (ns : List ℕ). is_among n ns) (sym (updated_pids-append g (flat gs))) ∙ h)) [
         | inl a ↦ among_left n freed_here freed_later (gone_here s used i n g a r.0)
         | inr b ↦ among_right n freed_here freed_later (gone_is_freed s used j n gs b r.1)
       ]
@@ -215,7 +215,7 @@ module _ {V : Type 0} where
   -- ---- the table
 
   -- a fact on the members of all groups is one on those of some
-  all_passed : (P : Placed V → Type 0) (test : List (Worked V) → Bool) (gs : List (List (Worked V))) → AllByRecursion P (placed_of (flat gs)) → AllByRecursion P (placed_of (flat (filter test gs)))
+  all_passed : (P : Placed V → Type 0) (test : List (Updated V) → Bool) (gs : List (List (Updated V))) → AllByRecursion P (placed_of (flat gs)) → AllByRecursion P (placed_of (flat (filter test gs)))
   all_passed P test [] h = h
   all_passed P test (g ∷ gs) h =
       let r = all_apart P (placed_of g) (placed_of (flat gs)) (subst (λ (ps : List (Placed V)). AllByRecursion P ps) (placed_of-append g (flat gs)) h) in
@@ -226,52 +226,52 @@ module _ {V : Type 0} where
       passed_by false a k = k
 
   -- pages whose places stayed are still in the table
-  stay_home : (of : Page V → PageOfKind) (before after : Mapping PageOfKind) (ws : List (Worked V)) → ((n : ℕ) → is_among n (worked_pids ws) ≡ true → place_of after n ≡ place_of before n) → AreHome of before (placed_of ws) → AreHome of after (placed_of ws)
+  stay_home : (of : Page V → PageOfKind) (before after : Mapping PageOfKind) (ws : List (Updated V)) → ((n : ℕ) → is_among n (updated_pids ws) ≡ true → place_of after n ≡ place_of before n) → AreHome of before (placed_of ws) → AreHome of after (placed_of ws)
   stay_home of before after [] h a = tt
   stay_home of before after (w ∷ ws) h a =
-      let first : is_among w.placed.pid (worked_pids (w ∷ ws)) ≡ true = ap (λ (b : Bool). b || is_among w.placed.pid (worked_pids ws)) (eq-eqb w.placed.pid w.placed.pid refl) in
-      (h w.placed.pid first ∙ a.0, stay_home of before after ws (λ n e. h n (later_among n w.placed.pid (worked_pids ws) e)) a.1)
+      let first : is_among w.placed.pid (updated_pids (w ∷ ws)) ≡ true = ap (λ (b : Bool). b || is_among w.placed.pid (updated_pids ws)) (eq-eqb w.placed.pid w.placed.pid refl) in
+      (h w.placed.pid first ∙ a.0, stay_home of before after ws (λ n e. h n (later_among n w.placed.pid (updated_pids ws) e)) a.1)
 
   -- the pids that fresh pages have aren't among those of the level
-  abbrev pub AreFreshFor : List (Worked V) → List (Placed V) → Type 0
-  AreFreshFor ws ps = AllByRecursion (λ n. is_among n (worked_pids ws) ≡ false) (pids ps)
+  abbrev pub AreFreshFor : List (Updated V) → List (Placed V) → Type 0
+  AreFreshFor ws ps = AllByRecursion (λ n. is_among n (updated_pids ws) ≡ false) (pids ps)
 
-  fresh_apart : (ws : List (Worked V)) (ps : List (Placed V)) → AreFreshFor ws ps → AreApart (worked_pids ws) (pids ps)
+  fresh_apart : (ws : List (Updated V)) (ps : List (Placed V)) → AreFreshFor ws ps → AreApart (updated_pids ws) (pids ps)
   fresh_apart ws ps h n e =
-      false_from_ne_true (is_among n (pids ps)) (λ f. let a : is_among n (worked_pids ws) ≡ false = at_among (λ k. is_among k (worked_pids ws) ≡ false) n (pids ps) h f in absurd (cc))
+      false_from_ne_true (is_among n (pids ps)) (λ f. let a : is_among n (updated_pids ws) ≡ false = at_among (λ k. is_among k (updated_pids ws) ≡ false) n (pids ps) h f in absurd (cc))
 
   -- members of the groups that stay have the places that they had
-  staying_place : (s : Settings) (used : List ℕ) (i : ℕ) (of : Page V → PageOfKind) (before after : Mapping PageOfKind) (gs : List (List (Worked V))) (n : ℕ)
-      → Distinct (worked_pids (flat gs)) → AreFreshFor (flat gs) (fresh_of (changes s used i (filter is_rewritten gs))) → IsInstalled of before after (changes s used i (filter is_rewritten gs))
-      → is_among n (worked_pids (staying gs)) ≡ true → place_of after n ≡ place_of before n
+  staying_place : (s : Settings) (used : List ℕ) (i : ℕ) (of : Page V → PageOfKind) (before after : Mapping PageOfKind) (gs : List (List (Updated V))) (n : ℕ)
+      → Distinct (updated_pids (flat gs)) → AreFreshFor (flat gs) (fresh_of (changes s used i (filter is_rewritten gs))) → IsInstalled of before after (changes s used i (filter is_rewritten gs))
+      → is_among n (updated_pids (staying gs)) ≡ true → place_of after n ≡ place_of before n
   staying_place s used i of before after gs n d f t e =
-      let rs : List (List (Worked V)) = filter is_rewritten gs in
+      let rs : List (List (Updated V)) = filter is_rewritten gs in
       let cs : List (Change V) = changes s used i rs in
-      let all : is_among n (worked_pids (flat gs)) ≡ true = among_passed (λ g. not (is_rewritten g)) gs n e in
-      let apart : is_among n (worked_pids (flat rs)) ≡ false = staying_apart gs d n e in
+      let all : is_among n (updated_pids (flat gs)) ≡ true = among_passed (λ g. not (is_rewritten g)) gs n e in
+      let apart : is_among n (updated_pids (flat rs)) ≡ false = staying_apart gs d n e in
       let fresh : is_among n (pids (fresh_of cs)) ≡ false = fresh_apart (flat gs) (fresh_of cs) f n all in
       t.others n (not_among_from n (pids (new_of cs)) (pids (freed_of cs)) (not_new s used i n rs apart fresh) (not_freed s used i n rs apart))
 
   -- of any groups: after those that are rewritten are installed, the table has all pages that are made of all of them
-  pub installed-groups : (s : Settings) (used : List ℕ) (i : ℕ) (of : Page V → PageOfKind) (before after : Mapping PageOfKind) (gs : List (List (Worked V)))
-      → AreHome of before (placed_of (flat gs)) → Distinct (worked_pids (flat gs)) → AreFreshFor (flat gs) (fresh_of (changes s used i (filter is_rewritten gs))) → IsInstalled of before after (changes s used i (filter is_rewritten gs))
+  pub installed-groups : (s : Settings) (used : List ℕ) (i : ℕ) (of : Page V → PageOfKind) (before after : Mapping PageOfKind) (gs : List (List (Updated V)))
+      → AreHome of before (placed_of (flat gs)) → Distinct (updated_pids (flat gs)) → AreFreshFor (flat gs) (fresh_of (changes s used i (filter is_rewritten gs))) → IsInstalled of before after (changes s used i (filter is_rewritten gs))
       → AreHome of after (new_of (changes s used i gs))
   installed-groups s used i of before after gs h d f t =
       all_made (λ p. place_of after p.pid ≡ Some (Some (of p.page))) s used i gs t.new (stay_home of before after (staying gs) (λ n. staying_place s used i of before after gs n d f t) (all_passed (λ p. place_of before p.pid ≡ Some (Some (of p.page))) (λ g. not (is_rewritten g)) gs h))
 
   -- a pid of theirs that no page has afterwards has no place
-  pub freed-groups : (s : Settings) (used : List ℕ) (i : ℕ) (of : Page V → PageOfKind) (before after : Mapping PageOfKind) (gs : List (List (Worked V))) (n : ℕ)
-      → IsInstalled of before after (changes s used i (filter is_rewritten gs)) → is_among n (worked_pids (flat gs)) ≡ true → is_among n (pids (new_of (changes s used i gs))) ≡ false → place_of after n ≡ None
+  pub freed-groups : (s : Settings) (used : List ℕ) (i : ℕ) (of : Page V → PageOfKind) (before after : Mapping PageOfKind) (gs : List (List (Updated V))) (n : ℕ)
+      → IsInstalled of before after (changes s used i (filter is_rewritten gs)) → is_among n (updated_pids (flat gs)) ≡ true → is_among n (pids (new_of (changes s used i gs))) ≡ false → place_of after n ≡ None
   freed-groups s used i of before after gs n t h k =
-      let rs : List (List (Worked V)) = filter is_rewritten gs in
+      let rs : List (List (Updated V)) = filter is_rewritten gs in
       let a : AreAlike (changes s used i gs) (changes s used i rs) = alike_rewritten s used i gs in
       let gone : is_among n (pids (freed_of (changes s used i rs))) ≡ true = ap (λ (ps : List (Placed V)). is_among n (pids ps)) (sym a.freed) ∙ gone_is_freed s used i n gs h k in
       at_among (λ m. place_of after m ≡ None) n (pids (freed_of (changes s used i rs))) (keyed_by_pid (λ m. place_of after m ≡ None) (freed_of (changes s used i rs)) t.freed) gone
 
   -- a pid that is neither theirs nor a fresh page's has the place that it had
-  pub other-groups : (s : Settings) (used : List ℕ) (i : ℕ) (of : Page V → PageOfKind) (before after : Mapping PageOfKind) (gs : List (List (Worked V))) (n : ℕ)
-      → IsInstalled of before after (changes s used i (filter is_rewritten gs)) → is_among n (worked_pids (flat gs)) ≡ false → is_among n (pids (fresh_of (changes s used i (filter is_rewritten gs)))) ≡ false → place_of after n ≡ place_of before n
+  pub other-groups : (s : Settings) (used : List ℕ) (i : ℕ) (of : Page V → PageOfKind) (before after : Mapping PageOfKind) (gs : List (List (Updated V))) (n : ℕ)
+      → IsInstalled of before after (changes s used i (filter is_rewritten gs)) → is_among n (updated_pids (flat gs)) ≡ false → is_among n (pids (fresh_of (changes s used i (filter is_rewritten gs)))) ≡ false → place_of after n ≡ place_of before n
   other-groups s used i of before after gs n t h k =
-      let rs : List (List (Worked V)) = filter is_rewritten gs in
-      let apart : is_among n (worked_pids (flat rs)) ≡ false = false_from_ne_true (is_among n (worked_pids (flat rs))) (λ e. let x : is_among n (worked_pids (flat gs)) ≡ true = among_passed is_rewritten gs n e in absurd (cc)) in
+      let rs : List (List (Updated V)) = filter is_rewritten gs in
+      let apart : is_among n (updated_pids (flat rs)) ≡ false = false_from_ne_true (is_among n (updated_pids (flat rs))) (λ e. let x : is_among n (updated_pids (flat gs)) ≡ true = among_passed is_rewritten gs n e in absurd (cc)) in
       t.others n (not_among_from n (pids (new_of (changes s used i rs))) (pids (freed_of (changes s used i rs))) (not_new s used i n rs apart k) (not_freed s used i n rs apart))

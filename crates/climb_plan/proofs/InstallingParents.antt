@@ -11,7 +11,7 @@ use Rattle.mapping.specs.Proper.{Distinct, AreRisingPids}
 use Rattle.mapping.specs.Table.{Mapping, pids_in_use, place_of, page_of, at_home}
 use Rattle.mapping.specs.TreeInMemory.{TreeInMemory}
 use Rattle.page_runs.specs.TermWork.{TermHeld, term_held_of, index_made}
-use Rattle.page_runs.specs.Worked.{Worked}
+use Rattle.page_runs.specs.Updated.{Updated}
 use Rattle.page_runs.specs.declared.term_work.TermJob.{TermJob}
 use Rattle.climb_plan.specs.Installing.{all_taken, all_put, AreAway, IsIndexAt, AreParentsHome, page_or_none, parent_held}
 use Rattle.climb_plan.proofs.Installing.{ParentRuns, tree_taken, tree_put}
@@ -55,12 +55,12 @@ pub all_indexes : (t : Mapping PageOfKind) (js : List TermJob) (xs : List Parent
 all_indexes t js xs e h =
     All-from_recursion (λ (j : TermJob). IsIndex (term_held_of j).page) js (job_indexes js (subst (λ (hs : List TermHeld). AllByRecursion (λ h. IsIndex h.page) hs) (sym e) (held_indexes t xs h.0)))
 
-pub made_of : (s : Settings) (t : Mapping PageOfKind) (hs : List TermHeld) (xs : List ParentRuns) (ws : List (Worked ℕ)) → ws ≡ map (index_made s) hs → hs ≡ map (parent_held t) xs → ws ≡ map (λ x. index_made s (parent_held t x)) xs
+pub made_of : (s : Settings) (t : Mapping PageOfKind) (hs : List TermHeld) (xs : List ParentRuns) (ws : List (Updated ℕ)) → ws ≡ map (index_made s) hs → hs ≡ map (parent_held t) xs → ws ≡ map (λ x. index_made s (parent_held t x)) xs
 made_of s t hs xs ws e h = e ∙ ap (λ (ys : List TermHeld). map (index_made s) ys) h ∙ joined xs
   where
     joined : (ys : List ParentRuns) → map (index_made s) (map (parent_held t) ys) ≡ map (λ x. index_made s (parent_held t x)) ys
     joined [] = refl
-    joined (y ∷ ys) = ap (λ (ws : List (Worked ℕ)). index_made s (parent_held t y) ∷ ws) (joined ys)
+    joined (y ∷ ys) = ap (λ (ws : List (Updated ℕ)). index_made s (parent_held t y) ∷ ws) (joined ys)
 
 home_there : (o : Option (Option PageOfKind)) → IsIndexAt (at_home o) → o ≡ Some (Some (page_or_none (at_home o)))
 home_there None h = absurd h

@@ -9,7 +9,7 @@ use Rattle.index_page.specs.Rules.{IsHeaded}
 use Rattle.index_page.proofs.ListLemmas.{all_apart}
 use Rattle.mapping.specs.Levels.{Placed, entries, joined, name, names, pids, all_pids}
 use Rattle.mapping.specs.Proper.{Stacked, IsBranchedTop, Distinct}
-use Rattle.mapping.proofs.TileLemmas.{Names}
+use Rattle.mapping.proofs.TileLemmas.{Separators}
 use Rattle.split_plan.proofs.ChangeLemmas.{AllHeaded}
 use Rattle.climb_plan.specs.Climb.{is_lone, kept_under, kept_levels}
 
@@ -19,8 +19,8 @@ pub lone_is_over_one : {V : Type 0} (l : List (Placed ℕ)) (level : List (Place
 lone_is_over_one [] level e h = absurd (cc)
 lone_is_over_one (p ∷ []) level e h =
     let one : length (entries p) ≡ 1 = eqb-true (length (entries p)) 1 e in
-    let all : length (entries p ++ []) ≡ length (names level) = ap (λ (ns : Names). length ns) h in
-    let same : length (entries p ++ []) ≡ length (entries p) = ap (λ (ns : Names). length ns) (append-nil (entries p)) in
+    let all : length (entries p ++ []) ≡ length (names level) = ap (λ (ns : Separators). length ns) h in
+    let same : length (entries p ++ []) ≡ length (entries p) = ap (λ (ns : Separators). length ns) (append-nil (entries p)) in
     sym (length-map level name) ∙ sym all ∙ same ∙ one
 lone_is_over_one (p ∷ q ∷ ps) level e h = absurd (cc)
 

@@ -19,21 +19,21 @@ use Rattle.mapping.specs.Levels.{Placed, entries, joined}
 use Rattle.mapping.specs.Proper.{next_low, Tiled}
 use Rattle.page_runs.specs.NetRun.{noted, noted_all, noted_by, touched, net_run}
 use Rattle.page_runs.proofs.NetLemmas.{rising-net_run}
-use Rattle.split_plan.specs.WorkedLevel.{part_below, part_from, worked_leaves, placed_of}
-use Rattle.split_plan.proofs.WorkedLemmas.{tiled-worked_leaves}
+use Rattle.split_plan.specs.UpdatedLevel.{part_below, part_from, updated_leaves, placed_of}
+use Rattle.split_plan.proofs.WorkedLemmas.{tiled-updated_leaves}
 use Rattle.climb_plan.specs.Limits.{IsShortCommand, AreShort}
-use Rattle.climb_plan.proofs.Sizes.{IsSmall, IsSmallUnlessFat, AreShortPairs, AreShortChanges, small-worked, short_entries}
+use Rattle.climb_plan.proofs.Sizes.{IsSmall, IsSmallUnlessFat, AreShortPairs, AreShortChanges, small-updated, short_entries}
 
 -- ---- they are tiled
 
 -- the net run is one for the first leaf, whose low key is the empty one
-pub tiled-leaves : {A : Type 0} (s : Settings) (cs : List (Command A)) (ps : List (Placed (List ℕ))) → next_low ps None ≡ Some [] → Tiled ps None → Tiled (placed_of (worked_leaves s (net_run (joined ps) cs) ps)) None
+pub tiled-leaves : {A : Type 0} (s : Settings) (cs : List (Command A)) (ps : List (Placed (List ℕ))) → next_low ps None ≡ Some [] → Tiled ps None → Tiled (placed_of (updated_leaves s (net_run (joined ps) cs) ps)) None
 tiled-leaves s cs [] e h = tt
 tiled-leaves s cs (p ∷ ps) e h =
     let run : List (List ℕ × Option (List ℕ)) = net_run (joined (p ∷ ps)) cs in
     let least : p.page.low ≡ [] = cc in
     let from_low : AreFrom p.page.low (keys_of run) = rw least (from_nothing (keys_of run)) in
-    tiled-worked_leaves s run p ps None h (record { rising = rising-net_run (joined (p ∷ ps)) cs; from = from_low; before = tt })
+    tiled-updated_leaves s run p ps None h (record { rising = rising-net_run (joined (p ∷ ps)) cs; from = from_low; before = tt })
 
 -- ---- they are within the settings
 
@@ -112,14 +112,14 @@ module _ (s : Settings) where
   short_leaves (p ∷ ps) h =
       all-append (λ (e : List ℕ × List ℕ). IsShortChange s (IsShortValue s) (e.0, Some e.1)) (entries p) (joined ps) (short_entries s (IsShortValue s) p h.0.fit.changes) (short_leaves ps h.1)
 
-  small-worked_leaves : (run : List (List ℕ × Option (List ℕ))) (ps : List (Placed (List ℕ))) → AllByRecursion (IsSmall s (IsShortValue s)) ps → ShortChanges run → AllByRecursion (IsSmallUnlessFat s (IsShortValue s)) (worked_leaves s run ps)
-  small-worked_leaves run [] h a = tt
-  small-worked_leaves run (p ∷ []) h a = (small-worked s (IsShortValue s) p run h.0 a, tt)
-  small-worked_leaves run (p ∷ q ∷ qs) h a = (
-    small-worked s (IsShortValue s) p (part_below q.page.low run) h.0 (all-filter (IsShortChange s (IsShortValue s)) _ run a),
-    small-worked_leaves (part_from q.page.low run) (q ∷ qs) h.1 (all-filter (IsShortChange s (IsShortValue s)) _ run a),
+  small-updated_leaves : (run : List (List ℕ × Option (List ℕ))) (ps : List (Placed (List ℕ))) → AllByRecursion (IsSmall s (IsShortValue s)) ps → ShortChanges run → AllByRecursion (IsSmallUnlessFat s (IsShortValue s)) (updated_leaves s run ps)
+  small-updated_leaves run [] h a = tt
+  small-updated_leaves run (p ∷ []) h a = (small-updated s (IsShortValue s) p run h.0 a, tt)
+  small-updated_leaves run (p ∷ q ∷ qs) h a = (
+    small-updated s (IsShortValue s) p (part_below q.page.low run) h.0 (all-filter (IsShortChange s (IsShortValue s)) _ run a),
+    small-updated_leaves (part_from q.page.low run) (q ∷ qs) h.1 (all-filter (IsShortChange s (IsShortValue s)) _ run a),
   )
 
   -- leaves within the settings stay within them after the net run of commands within them, except for fat leaves
-  pub small-leaves : {A : Type 0} (cs : List (Command A)) (ps : List (Placed (List ℕ))) → AreShort s cs → AllByRecursion (IsSmall s (IsShortValue s)) ps → AllByRecursion (IsSmallUnlessFat s (IsShortValue s)) (worked_leaves s (net_run (joined ps) cs) ps)
-  small-leaves cs ps h a = small-worked_leaves (net_run (joined ps) cs) ps a (short-net_run (joined ps) cs h (short_leaves ps a))
+  pub small-leaves : {A : Type 0} (cs : List (Command A)) (ps : List (Placed (List ℕ))) → AreShort s cs → AllByRecursion (IsSmall s (IsShortValue s)) ps → AllByRecursion (IsSmallUnlessFat s (IsShortValue s)) (updated_leaves s (net_run (joined ps) cs) ps)
+  small-leaves cs ps h a = small-updated_leaves (net_run (joined ps) cs) ps a (short-net_run (joined ps) cs h (short_leaves ps a))

@@ -8,11 +8,11 @@ use Rattle.mapping.specs.Levels.{Placed}
 use Rattle.mapping.specs.Proper.{AreRisingPids}
 use Rattle.mapping.specs.Table.{Mapping, pids_in_use, with_rooms, fresh_pids, freed_all}
 use Rattle.mapping.specs.TreeInMemory.{TreeInMemory}
-use Rattle.page_runs.specs.TermWork.{TermHeld, IndexWorked, index_made}
-use Rattle.page_runs.specs.Worked.{Worked}
+use Rattle.page_runs.specs.TermWork.{TermHeld, IndexUpdate, index_made}
+use Rattle.page_runs.specs.Updated.{Updated}
 use Rattle.split_plan.specs.Change.{changes}
 use Rattle.split_plan.specs.Terms.{terms}
-use Rattle.split_plan.specs.WorkedLevel.{worked_parents}
+use Rattle.split_plan.specs.UpdatedLevel.{updated_parents}
 use Rattle.climb_plan.specs.Changing.{SeenPage, page_seen, changing_families, parents_of, changing_groups, changing_changes}
 use Rattle.climb_plan.specs.Climb.{LevelPlan}
 use Rattle.climb_plan.specs.Installing.{all_taken, parent_held, AreAway, AreParentsHome}
@@ -42,9 +42,9 @@ with_table t u = record { table = u; root = t.root; height = t.height }
 abbrev pub numbers_drawn : TreeInMemory → List Remade → TreeInMemory
 numbers_drawn t rs = with_table t (with_rooms t.table (fresh_pids (pids_in_use t.table) (numbers rs)))
 
-module _ {V : Type 0} (s : Settings) (of : Page V → PageOfKind) (kind : IsKind of) (z : 0 < s.fan) (t : TreeInMemory) (xs : List SeenPage) (ws : List (Worked V)) (ps : List (Placed ℕ)) (ups : List (List (Placed ℕ))) (used : List ℕ) (i : ℕ)
+module _ {V : Type 0} (s : Settings) (of : Page V → PageOfKind) (kind : IsKind of) (z : 0 < s.fan) (t : TreeInMemory) (xs : List SeenPage) (ws : List (Updated V)) (ps : List (Placed ℕ)) (ups : List (List (Placed ℕ))) (used : List ℕ) (i : ℕ)
     (h : IsLevel of t xs (level_of ws (ps ∷ ups) used i)) (counts : List (ℕ × ℕ)) (freed : List (List (List ℕ × ℕ))) (groups : List Remade) (cut : IsCut s of (level_of ws ups used i) ps counts freed groups) where
-  abbrev rewritten_here : List (List (Worked V))
+  abbrev rewritten_here : List (List (Updated V))
   rewritten_here = changing_groups (changing_families ps ws)
 
   -- each group has a piece
@@ -92,12 +92,12 @@ module _ {V : Type 0} (s : Settings) (of : Page V → PageOfKind) (kind : IsKind
       still_rising = subst (λ (v : TreeInMemory). AreRisingPids (pids_in_use v.table)) (sym same_tree) (drawn_places (new_here s of t xs ws ps ups used i) t.table h.rising).rising
 
       -- what became of the level
-      pub all_changed : (after : TreeInMemory) (parents : List IndexWorked) → map (λ d. d.made) parents ≡ map (λ e. index_made s (parent_held u.table e)) (terms_by_parent counts freed given)
+      pub all_changed : (after : TreeInMemory) (parents : List IndexUpdate) → map (λ d. d.made) parents ≡ map (λ e. index_made s (parent_held u.table e)) (terms_by_parent counts freed given)
           → map (λ d. d.held) parents ≡ map (parent_held u.table) (terms_by_parent counts freed given) → after ≡ with_table u (all_taken u.table (map (λ e. e.0) (terms_by_parent counts freed given)))
           → IsChanged s of t after (level_of ws ups used i) ps given parents
       all_changed after parents made held taken =
           let pair : TermHeld → ℕ × PageOfKind = λ x. (x.pid, x.page) in
-          let made_so : map (λ d. d.made) parents ≡ worked_parents s (parents_of (changing_families ps ws)) (map terms (changing_changes s used i (changing_families ps ws))) =
+          let made_so : map (λ d. d.made) parents ≡ updated_parents s (parents_of (changing_families ps ws)) (map terms (changing_changes s used i (changing_families ps ws))) =
           made ∙ ap (λ (es : List (ℕ × List (List ℕ × Option ℕ))). map (λ e. index_made s (parent_held u.table e)) es) termed_so
           ∙ ap (λ (v : TreeInMemory). map (λ e. index_made s (parent_held v.table e)) (termed_here s of t xs ws ps ups used i z h)) same_tree
           ∙ made_here s of t xs ws ps ups used i z h in
@@ -121,11 +121,11 @@ pub record IsDrawn {V : Type 0} (s : Settings) (of : Page V → PageOfKind) (t u
   pub rising : AreRisingPids (pids_in_use u.table)
   pub names : CanTakeTerms counts freed given
   pub home : AreParentsHome u.table (map (λ e. e.0) (terms_by_parent counts freed given))
-  pub changed : (after : TreeInMemory) (parents : List IndexWorked) → map (λ d. d.made) parents ≡ map (λ e. index_made s (parent_held u.table e)) (terms_by_parent counts freed given)
+  pub changed : (after : TreeInMemory) (parents : List IndexUpdate) → map (λ d. d.made) parents ≡ map (λ e. index_made s (parent_held u.table e)) (terms_by_parent counts freed given)
       → map (λ d. d.held) parents ≡ map (parent_held u.table) (terms_by_parent counts freed given) → after ≡ with_table u (all_taken u.table (map (λ e. e.0) (terms_by_parent counts freed given)))
       → IsChanged s of t after l ps given parents
 
-pub level_drawn : {V : Type 0} (s : Settings) (of : Page V → PageOfKind) (kind : IsKind of) (z : 0 < s.fan) (t u : TreeInMemory) (xs : List SeenPage) (ws : List (Worked V)) (ps : List (Placed ℕ)) (ups : List (List (Placed ℕ))) (used : List ℕ) (i : ℕ)
+pub level_drawn : {V : Type 0} (s : Settings) (of : Page V → PageOfKind) (kind : IsKind of) (z : 0 < s.fan) (t u : TreeInMemory) (xs : List SeenPage) (ws : List (Updated V)) (ps : List (Placed ℕ)) (ups : List (List (Placed ℕ))) (used : List ℕ) (i : ℕ)
     → IsLevel of t xs (level_of ws (ps ∷ ups) used i) → (counts seen_counts : List (ℕ × ℕ)) (freed : List (List (List ℕ × ℕ))) (groups old new rest given : List Remade) (n : ℕ) → IsCut s of (level_of ws ups used i) ps counts freed groups → seen_counts ≡ counts → old ≡ groups
     → AreGiven t.table old new → length old ≡ n → given ≡ take n (new ++ rest) → u ≡ numbers_drawn t old → IsDrawn s of t u (level_of ws ups used i) ps seen_counts freed given
 level_drawn s of kind z t u xs ws ps ups used i h counts seen_counts freed groups old new rest given n cut same_counts same_groups numbers_so len whole drawn =
@@ -145,7 +145,7 @@ pub record CanGiveBack (t u : TreeInMemory) (given : List Remade) : Type 0 where
   pub away : AreAway u.table (flat_map (λ r. r.fresh) given)
   pub back : with_table u (freed_all u.table (flat_map (λ r. r.fresh) given)) ≡ t
 
-pub can_give_back : {V : Type 0} (of : Page V → PageOfKind) (t u v : TreeInMemory) (xs : List SeenPage) (ws : List (Worked V)) (ups : List (List (Placed ℕ))) (used : List ℕ) (i : ℕ) → IsLevel of t xs (level_of ws ups used i)
+pub can_give_back : {V : Type 0} (of : Page V → PageOfKind) (t u v : TreeInMemory) (xs : List SeenPage) (ws : List (Updated V)) (ups : List (List (Placed ℕ))) (used : List ℕ) (i : ℕ) → IsLevel of t xs (level_of ws ups used i)
     → (old new rest given : List Remade) (n : ℕ) → AreGiven t.table old new → length old ≡ n → given ≡ take n (new ++ rest) → u ≡ numbers_drawn t old → v ≡ u → CanGiveBack t v given
 can_give_back of t u v xs ws ups used i h old new rest given n numbers_so len whole drawn same =
     let fresh : flat_map (λ r. r.fresh) given ≡ fresh_pids (pids_in_use t.table) (numbers old) =

@@ -12,14 +12,14 @@ use Rattle.mapping.specs.Proper.{next_low, AreRisingPids}
 use Rattle.mapping.specs.Table.{Mapping, pids_in_use, with_rooms, fresh_pids, freed_all, IsOldWithoutPlace}
 use Rattle.mapping.specs.TreeInMemory.{TreeInMemory}
 use Rattle.mapping.proofs.LevelLemmas.{same_pids}
-use Rattle.mapping.proofs.TileLemmas.{Names, rising-names}
-use Rattle.page_runs.specs.Worked.{Worked, is_fat}
+use Rattle.mapping.proofs.TileLemmas.{Separators, rising-names}
+use Rattle.page_runs.specs.Updated.{Updated, is_fat}
 use Rattle.split_plan.specs.Cut.{cut}
-use Rattle.split_plan.specs.WorkedLevel.{placed_of}
+use Rattle.split_plan.specs.UpdatedLevel.{placed_of}
 use Rattle.split_plan.specs.Change.{Change, placed_bare, fresh_pages, is_rewritten, remade, changes, fresh_of, all_new, all_fresh}
 use Rattle.split_plan.proofs.ChangeLemmas.{remade_by, remade_begins}
 use Rattle.climb_plan.specs.Changing.{SeenPage, page_seen, AreSeen}
-use Rattle.climb_plan.specs.Changing.AreSeen.{worked, at_home}
+use Rattle.climb_plan.specs.Changing.AreSeen.{updated, at_home}
 use Rattle.climb_plan.specs.Climb.{climb, grown_levels}
 use Rattle.climb_plan.specs.Installing.{AreGrown}
 use Rattle.climb_plan.specs.Level.{IsKind, IsLevel, remade_of, next_tree, IsTopChanged}
@@ -39,15 +39,15 @@ use Rattle.climb_plan.proofs.LevelParts.{level_of}
 -- ---- all pages were seen
 
 module _ {V : Type 0} (of : Page V → PageOfKind) (t : Mapping PageOfKind) where
-  fewer_seen : {xs : List SeenPage} {ws : List (Worked V)} → AreSeen of t xs ws → length xs ≤ length ws
+  fewer_seen : {xs : List SeenPage} {ws : List (Updated V)} → AreSeen of t xs ws → length xs ≤ length ws
   fewer_seen (AreSeen.none) = omega arith
-  fewer_seen (worked w e r) = let ih = fewer_seen r in omega arith
+  fewer_seen (updated w e r) = let ih = fewer_seen r in omega arith
   fewer_seen (at_home p e r) = let ih = fewer_seen r in omega arith
 
   -- if as many pages were seen as there are, these are all pages
-  all_seen : {xs : List SeenPage} {ws : List (Worked V)} → AreSeen of t xs ws → length ws ≤ length xs → xs ≡ map (page_seen of) ws
+  all_seen : {xs : List SeenPage} {ws : List (Updated V)} → AreSeen of t xs ws → length ws ≤ length xs → xs ≡ map (page_seen of) ws
   all_seen (AreSeen.none) l = refl
-  all_seen (worked w e r) l = ap (λ (xs : List SeenPage). page_seen of w ∷ xs) (all_seen r (omega arith))
+  all_seen (updated w e r) l = ap (λ (xs : List SeenPage). page_seen of w ∷ xs) (all_seen r (omega arith))
   all_seen (at_home p e r) l = absurd (let ih = fewer_seen r in omega arith)
 
 pub some_seen : {D : Type 0} (f : D → SeenPage) (ds : List D) → 0 < length ds → 0 < length (map f ds)
@@ -60,9 +60,9 @@ module _ {V W : Type 0} where
   grown_levels-named : (n : ℕ) (s : Settings) (used : List ℕ) (i : ℕ) (ps : List (Placed V)) (qs : List (Placed W)) → names ps ≡ names qs → grown_levels n s used i ps ≡ grown_levels n s used i qs
   grown_levels-named zero s used i ps qs e = refl
   grown_levels-named (suc n) s used i ps qs e =
-      let above : Names → List (List (Placed ℕ)) = λ ns. (let up : List (Placed ℕ) = fresh_pages used i (cut s.fan ns) in up ∷ grown_levels n s used (i + length up) up) in
-      let count : length ps ≡ length qs = sym (length-map ps name) ∙ ap (λ (ns : Names). length ns) e ∙ length-map qs name in
-      ap (λ (m : ℕ). cond (nat_lt 1 m) (above (names ps)) []) count ∙ ap (λ (ns : Names). cond (nat_lt 1 (length qs)) (above ns) []) e
+      let above : Separators → List (List (Placed ℕ)) = λ ns. (let up : List (Placed ℕ) = fresh_pages used i (cut s.fan ns) in up ∷ grown_levels n s used (i + length up) up) in
+      let count : length ps ≡ length qs = sym (length-map ps name) ∙ ap (λ (ns : Separators). length ns) e ∙ length-map qs name in
+      ap (λ (m : ℕ). cond (nat_lt 1 m) (above (names ps)) []) count ∙ ap (λ (ns : Separators). cond (nat_lt 1 (length qs)) (above ns) []) e
 
   -- and the same page is the top
   top-named : (ps : List (Placed V)) (qs : List (Placed W)) (ls : List (List (Placed ℕ))) → names ps ≡ names qs → top_pid ps ls ≡ top_pid qs ls
@@ -73,12 +73,12 @@ module _ {V W : Type 0} where
   top-named ps qs (up ∷ ups) e = refl
 
 -- index pages of these names
-abbrev pages_named : Names → List (Placed ℕ)
+abbrev pages_named : Separators → List (Placed ℕ)
 pages_named ns = map (λ n. placed_bare n.1 n.0 []) ns
 
-names-pages_named : (ns : Names) → names (pages_named ns) ≡ ns
+names-pages_named : (ns : Separators) → names (pages_named ns) ≡ ns
 names-pages_named [] = refl
-names-pages_named (n ∷ ns) = ap (λ (ms : Names). n ∷ ms) (names-pages_named ns)
+names-pages_named (n ∷ ns) = ap (λ (ms : Separators). n ∷ ms) (names-pages_named ns)
 
 -- ---- the entries of the new pages
 
@@ -86,9 +86,9 @@ module _ {V : Type 0} (of : Page V → PageOfKind) (kind : IsKind of) where
   named_kept : (qs : List (Placed V)) → named_pages (map (λ q. of q.page) qs) (pids qs) ≡ names qs
   named_kept [] = refl
   named_kept (q ∷ qs) =
-      ap (λ (k : List ℕ). (k, q.pid) ∷ named_pages (map (λ q. of q.page) qs) (pids qs)) (kind.low q.page) ∙ ap (λ (ns : Names). name q ∷ ns) (named_kept qs)
+      ap (λ (k : List ℕ). (k, q.pid) ∷ named_pages (map (λ q. of q.page) qs) (pids qs)) (kind.low q.page) ∙ ap (λ (ns : Separators). name q ∷ ns) (named_kept qs)
 
-  names_by : (s : Settings) (used : List ℕ) (i : ℕ) (b : Bool) (w : Worked V) (root : ℕ) → is_fat w ≡ b → root ≡ w.placed.pid → w.placed.page.low ≡ []
+  names_by : (s : Settings) (used : List ℕ) (i : ℕ) (b : Bool) (w : Updated V) (root : ℕ) → is_fat w ≡ b → root ≡ w.placed.pid → w.placed.page.low ≡ []
       → top_names root (map (remade_of of) (changes s used i (cond b ((w ∷ []) ∷ []) []))) ≡ names (all_new (changes s used i ((w ∷ []) ∷ []) ∷ []))
   names_by s used i true w root e r l =
       let qs : List (Placed V) = remade s used i (w ∷ []) in
@@ -101,7 +101,7 @@ module _ {V : Type 0} (of : Page V → PageOfKind) (kind : IsKind of) where
       ∙ ap (λ (b : Bool). names ((remade_by b s used i w [] ++ []) ++ [])) (sym e)
 
   -- what code says of the pages of the highest level, the plan says of those that it makes
-  names_here : (s : Settings) (used : List ℕ) (i : ℕ) (ws : List (Worked V)) (root : ℕ) → length ws ≡ 1 → root ≡ top_pid (placed_of ws) [] → next_low (placed_of ws) None ≡ Some []
+  names_here : (s : Settings) (used : List ℕ) (i : ℕ) (ws : List (Updated V)) (root : ℕ) → length ws ≡ 1 → root ≡ top_pid (placed_of ws) [] → next_low (placed_of ws) None ≡ Some []
       → top_names root (map (remade_of of) (changes s used i (filter is_rewritten (ws ∷ [])))) ≡ names (all_new (changes s used i (ws ∷ []) ∷ []))
   names_here s used i [] root e r l = absurd (omega arith)
   names_here s used i (w ∷ []) root e r l = names_by s used i (is_fat w) w root refl r (let low : w.placed.page.low ≡ [] = cc in low)
@@ -109,20 +109,20 @@ module _ {V : Type 0} (of : Page V → PageOfKind) (kind : IsKind of) where
 
 module _ {V : Type 0} where
   -- something is made of it
-  some_made : (s : Settings) (used : List ℕ) (i : ℕ) (ws : List (Worked V)) → length ws ≡ 1 → 0 < length (names (all_new (changes s used i (ws ∷ []) ∷ [])))
+  some_made : (s : Settings) (used : List ℕ) (i : ℕ) (ws : List (Updated V)) → length ws ≡ 1 → 0 < length (names (all_new (changes s used i (ws ∷ []) ∷ [])))
   some_made s used i [] e = absurd (omega arith)
   some_made s used i (w ∷ ws) e =
       let qs : List (Placed V) = remade s used i (w ∷ ws) in
       let begins : names qs ≡ name w.placed ∷ names (drop 1 qs) = remade_begins s used i w ws in
       let same : names ((qs ++ []) ++ []) ≡ name w.placed ∷ names (drop 1 qs) = ap (λ (ps : List (Placed V)). names ps) (append-nil (qs ++ []) ∙ append-nil qs) ∙ begins in
-      let count : length (names ((qs ++ []) ++ [])) ≡ suc (length (names (drop 1 qs))) = ap (λ (ns : Names). length ns) same in
+      let count : length (names ((qs ++ []) ++ [])) ≡ suc (length (names (drop 1 qs))) = ap (λ (ns : Separators). length ns) same in
       omega arith
 
 -- ---- the level
 
 -- of the highest level after the numbers of its new pieces were drawn: levels can grow above it, and with those that code grows it has become
 -- what the plan makes of it; what grows above index pages of the same names, if as many were drawn, is what grows above it
-pub record IsTopDrawn {V : Type 0} (s : Settings) (of : Page V → PageOfKind) (t u : TreeInMemory) (ws : List (Worked V)) (used : List ℕ) (i : ℕ) (given : List Remade) : Type 0 where
+pub record IsTopDrawn {V : Type 0} (s : Settings) (of : Page V → PageOfKind) (t u : TreeInMemory) (ws : List (Updated V)) (used : List ℕ) (i : ℕ) (given : List Remade) : Type 0 where
   pub some : 0 < length (top_names u.root given)
   pub named : IsRising (top_names u.root given)
   pub rising : AreRisingPids (pids_in_use u.table)
@@ -137,13 +137,13 @@ pub record IsTopDrawn {V : Type 0} (s : Settings) (of : Page V → PageOfKind) (
   pub like_named : names like ≡ top_names u.root given
   pub too_high : 64 < u.height + length (grown_levels (length like) s used next like) → 64 < t.height + length (climb s used i ws []).tower.above
 
-module _ {V : Type 0} (s : Settings) (of : Page V → PageOfKind) (kind : IsKind of) (z : 0 < s.fan) (t : TreeInMemory) (xs : List SeenPage) (ws : List (Worked V)) (used : List ℕ) (i : ℕ) (h : IsLevel of t xs (level_of ws [] used i)) where
+module _ {V : Type 0} (s : Settings) (of : Page V → PageOfKind) (kind : IsKind of) (z : 0 < s.fan) (t : TreeInMemory) (xs : List SeenPage) (ws : List (Updated V)) (used : List ℕ) (i : ℕ) (h : IsLevel of t xs (level_of ws [] used i)) where
   -- the group, if it is one
-  abbrev pub group_on_top : List (List (Worked V))
+  abbrev pub group_on_top : List (List (Updated V))
   group_on_top = filter is_rewritten (ws ∷ [])
 
   one_page : length ws ≡ 1
-  one_page = sym (length-map ws (λ (w : Worked V). w.placed)) ∙ h.stacked
+  one_page = sym (length-map ws (λ (w : Updated V). w.placed)) ∙ h.stacked
 
   module _ (some : 0 < length xs) where
     all_here : xs ≡ map (page_seen of) ws
@@ -213,7 +213,7 @@ module _ {V : Type 0} (s : Settings) (of : Page V → PageOfKind) (kind : IsKind
     grown_same =
         let j : ℕ = i + length (all_fresh made_here) in
         let top : List (Placed V) = all_new made_here in
-        let count : length like_top ≡ length top = sym (length-map like_top name) ∙ ap (λ (ns : Names). length ns) like_named ∙ length-map top name in
+        let count : length like_top ≡ length top = sym (length-map like_top name) ∙ ap (λ (ns : Separators). length ns) like_named ∙ length-map top name in
         ap (λ (n : ℕ). grown_levels n s used j like_top) count ∙ grown_levels-named (length top) s used j like_top top like_named
 
     ready_logs : IsOldWithoutPlace ready_on_top.table
@@ -226,8 +226,8 @@ module _ {V : Type 0} (s : Settings) (of : Page V → PageOfKind) (kind : IsKind
         let j : ℕ = i + length (all_fresh made_here) in
         let like : names like_top ≡ top_names t.root given = like_named ∙ sym names_top in
         record {
-          some = subst (λ (ns : Names). 0 < length ns) (sym names_top) (some_made s used i ws one_page);
-          named = subst (λ (ns : Names). IsRising ns) (sym names_top) (rising-names top None (tiled-top s used i ws z h.tiled));
+          some = subst (λ (ns : Separators). 0 < length ns) (sym names_top) (some_made s used i ws one_page);
+          named = subst (λ (ns : Separators). IsRising ns) (sym names_top) (rising-names top None (tiled-top s used i ws z h.tiled));
           rising = (drawn_places count_here t.table h.rising).rising;
           logs = ready_logs;
           changed = λ after pid levels grows. (
@@ -262,6 +262,6 @@ pub given_back : (t v w : TreeInMemory) (given : List Remade) → CanGiveBack t 
 given_back t v w given b e = e ∙ b.back
 
 -- the same groups under another name
-pub of_groups : {V : Type 0} (s : Settings) (of : Page V → PageOfKind) (t after : TreeInMemory) (ws : List (Worked V)) (used : List ℕ) (i : ℕ) (given groups : List Remade) (pid levels : ℕ) → given ≡ groups
+pub of_groups : {V : Type 0} (s : Settings) (of : Page V → PageOfKind) (t after : TreeInMemory) (ws : List (Updated V)) (used : List ℕ) (i : ℕ) (given groups : List Remade) (pid levels : ℕ) → given ≡ groups
     → IsTopChanged s of t after (level_of ws [] used i) given pid levels → IsTopChanged s of t after (level_of ws [] used i) groups pid levels
 of_groups s of t after ws used i given groups pid levels e c = subst (λ (rs : List Remade). IsTopChanged s of t after (level_of ws [] used i) rs pid levels) e c

@@ -20,14 +20,14 @@ use Rattle.mapping.proofs.PidLemmas.{later_among, among_apart, among_either}
 use Rattle.mapping.specs.Proper.{AreRisingPids, HasIndexPages, HoldsLevels, HasRuns, IsTrueOf, AreLogsTrue, IsProper}
 use Rattle.mapping.proofs.TableLemmas.{same_pid, by_pid-holds, holds_where_found}
 use Rattle.page_runs.specs.NetRun.{net_run}
-use Rattle.split_plan.specs.WorkedLevel.{worked_leaves}
-use Rattle.split_plan.proofs.RunLemmas.{names-worked_leaves}
+use Rattle.split_plan.specs.UpdatedLevel.{updated_leaves}
+use Rattle.split_plan.proofs.RunLemmas.{names-updated_leaves}
 use Rattle.climb_plan.specs.Climb.{Climbed, kept_levels}
 use Rattle.mapping.specs.Outdate.{outdate, outdate_all}
 use Rattle.climb_plan.specs.Plan.{batch_climb, planned_levels, planned_tree, shrunk_pids, outdated_pids}
 use Rattle.climb_plan.proofs.Kept.{kept_is_first, left_is_rest}
 use Rattle.climb_plan.proofs.Planned.{planned_are_levels}
-use Rattle.climb_plan.proofs.Standing.{Has, IsAsBefore, HasAsBefore, StandsIn, AllStandIn, as_before-worked_leaves, stand-climb}
+use Rattle.climb_plan.proofs.Standing.{Has, IsAsBefore, HasAsBefore, StandsIn, AllStandIn, as_before-updated_leaves, stand-climb}
 
 -- ---- what is listed of a pid
 
@@ -172,7 +172,7 @@ module _ {A : Type 0} (s : Settings) (t : Tree) (cs : List (Command A)) where
     levels_stand =
         let l : Levels = levels_of t in
         let run : List (List ℕ × Option (List ℕ)) = net_run (Rattle.mapping.specs.Levels.contents t) cs in
-        stand-climb s (keys_of t.pages) 0 (worked_leaves s run l.level) l.level l.above (names-worked_leaves s run l.level) proper.levels.stacked (as_before-worked_leaves s run l.level)
+        stand-climb s (keys_of t.pages) 0 (updated_leaves s run l.level) l.level l.above (names-updated_leaves s run l.level) proper.levels.stacked (as_before-updated_leaves s run l.level)
 
     planned_holds : HoldsLevels (by_pid (all_pages (planned_levels s t cs))) (planned_levels s t cs)
     planned_holds = by_pid-holds (planned_levels s t cs) (planned_are_levels s t cs fan proper).distinct

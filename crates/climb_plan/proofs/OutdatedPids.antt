@@ -8,9 +8,9 @@ use Rattle.mapping.specs.Tree.{Tree}
 use Rattle.mapping.specs.Levels.{Placed}
 use Rattle.mapping.specs.FreshPids.{is_among}
 use Rattle.mapping.proofs.PidLemmas.{among_either, among_left, among_right}
-use Rattle.page_runs.specs.Worked.{Worked, is_thin}
+use Rattle.page_runs.specs.Updated.{Updated, is_thin}
 use Rattle.split_plan.specs.Groups.{groups}
-use Rattle.split_plan.specs.WorkedLevel.{worked_parents}
+use Rattle.split_plan.specs.UpdatedLevel.{updated_parents}
 use Rattle.split_plan.specs.Change.{Change, remade, family_changes, all_fresh, outdated, IsOutdatedIn, all_outdated}
 use Rattle.split_plan.proofs.OutdatedLemmas.{outdated_members, outdated_of_families}
 use Rattle.split_plan.specs.Terms.{terms}
@@ -21,7 +21,7 @@ use Rattle.climb_plan.specs.Plan.{batch_climb, shrunk_pids, outdated_pids}
 
 module _ {V : Type 0} where
   -- the highest level is one group
-  pub outdated_on_top : (s : Settings) (used : List ℕ) (i : ℕ) (ws : List (Worked V)) (pid : ℕ) → (is_among pid (climb s used i ws []).outdated ≡ true) ↔ IsOutdatedIn ws pid
+  pub outdated_on_top : (s : Settings) (used : List ℕ) (i : ℕ) (ws : List (Updated V)) (pid : ℕ) → (is_among pid (climb s used i ws []).outdated ≡ true) ↔ IsOutdatedIn ws pid
   outdated_on_top s used i ws pid =
       let c : Change V = record { members = ws; pages = remade s used i ws } in
       let only : (climb s used i ws []).outdated ≡ outdated c = append-nil (outdated c ++ []) ∙ append-nil (outdated c) in
@@ -29,12 +29,12 @@ module _ {V : Type 0} where
       (λ h. r.0 (subst (λ (ns : List ℕ). is_among pid ns ≡ true) only h), λ h. subst (λ (ns : List ℕ). is_among pid ns ≡ true) (sym only) (r.1 h))
 
   -- the outdated pids on the levels above a level
-  abbrev outdated_above : Settings → List ℕ → ℕ → List (Worked V) → List (Placed ℕ) → List (List (Placed ℕ)) → List ℕ
+  abbrev outdated_above : Settings → List ℕ → ℕ → List (Updated V) → List (Placed ℕ) → List (List (Placed ℕ)) → List ℕ
   outdated_above s used i ws parents ups =
       let css : List (List (Change V)) = family_changes s used i (families parents ws) in
-      (climb s used (i + length (all_fresh css)) (worked_parents s parents (map terms css)) ups).outdated
+      (climb s used (i + length (all_fresh css)) (updated_parents s parents (map terms css)) ups).outdated
 
-  pub outdated_below : (s : Settings) (used : List ℕ) (i : ℕ) (ws : List (Worked V)) (parents : List (Placed ℕ)) (ups : List (List (Placed ℕ))) (pid : ℕ)
+  pub outdated_below : (s : Settings) (used : List ℕ) (i : ℕ) (ws : List (Updated V)) (parents : List (Placed ℕ)) (ups : List (List (Placed ℕ))) (pid : ℕ)
       → (is_among pid (climb s used i ws (parents ∷ ups)).outdated ≡ true) ↔ (Any (λ f. Any (λ g. IsOutdatedIn g pid) (groups is_thin f)) (families parents ws) ⊎ (is_among pid (outdated_above s used i ws parents ups) ≡ true))
   outdated_below s used i ws parents ups pid =
       let here : List ℕ = all_outdated (family_changes s used i (families parents ws)) in

@@ -17,15 +17,15 @@ use Rattle.mapping.specs.FreshPids.{IsNeverUnused}
 use Rattle.mapping.specs.Tree.{Tree}
 use Rattle.mapping.specs.Levels.{Placed, Levels, entries, joined, name, names, all_pids, levels_of, contents, all_pages, by_pid}
 use Rattle.mapping.proofs.LevelLemmas.{levels_found}
-use Rattle.mapping.proofs.TileLemmas.{Names, rising-joined, some_page}
+use Rattle.mapping.proofs.TileLemmas.{Separators, rising-joined, some_page}
 use Rattle.mapping.proofs.TableLemmas.{rising-by_pid, by_pid-holds, all_pids_hold}
 use Rattle.mapping.proofs.PidLemmas.{used_is_never_unused}
 use Rattle.mapping.specs.Proper.{next_low, Tiled, Stacked, Distinct, AreLevels, AllFit, IsProper, HoldsLevels}
 use Rattle.page_runs.specs.NetRun.{net_run}
 use Rattle.page_runs.proofs.NetLemmas.{with_run-net_run}
-use Rattle.page_runs.specs.Worked.{Worked}
-use Rattle.split_plan.specs.WorkedLevel.{worked_leaves, placed_of}
-use Rattle.split_plan.proofs.RunLemmas.{joined-worked_leaves, names-worked_leaves}
+use Rattle.page_runs.specs.Updated.{Updated}
+use Rattle.split_plan.specs.UpdatedLevel.{updated_leaves, placed_of}
+use Rattle.split_plan.proofs.RunLemmas.{joined-updated_leaves, names-updated_leaves}
 use Rattle.split_plan.proofs.PidLemmas.{distinct_renewed}
 use Rattle.climb_plan.specs.Limits.{AreShort}
 use Rattle.climb_plan.specs.Climb.{Climbed}
@@ -69,7 +69,7 @@ module _ (s : Settings) where
       all_keys-append P (entries p) (joined ps) (all_keys P (entries p) (all_weaker (λ (e : List ℕ × ℕ). IsShortChange s IsAnyPid (e.0, Some e.1)) (λ e. length e.0 ≤ s.max_key) (λ e h. h.key) (entries p) (short_entries s IsAnyPid p f.0.changes))) (short_keys ps f.1)
 
   module _ {V : Type 0} (IsShort : V → Type 0) where
-    lows_named : (ps : List (Placed V)) (ns : Names) → ns ≡ names ps → AllByRecursion (λ k. length k ≤ s.max_key) (keys_of ns) → HaveShortLows s IsShort ps
+    lows_named : (ps : List (Placed V)) (ns : Separators) → ns ≡ names ps → AllByRecursion (λ k. length k ≤ s.max_key) (keys_of ns) → HaveShortLows s IsShort ps
     lows_named [] ns e a = tt
     lows_named (p ∷ ps) [] e a = absurd (cc)
     lows_named (p ∷ ps) (n ∷ ns) e a =
@@ -104,11 +104,11 @@ pub never_unused : (s : Settings) (t : Tree) → IsProper s t → AllByRecursion
 never_unused s t proper = all_pids_hold (IsNeverUnused (keys_of t.pages)) t.pages (used_is_never_unused (keys_of t.pages) proper.tree.rising) (levels_of t) proper.held
 
 module _ {A : Type 0} (s : Settings) (t : Tree) (cs : List (Command A)) (fan : 1 < s.fan) (proper : IsProper s t) where
-  abbrev leaves : List (Worked (List ℕ))
-  leaves = worked_leaves s (net_run (contents t) cs) (levels_of t).level
+  abbrev leaves : List (Updated (List ℕ))
+  leaves = updated_leaves s (net_run (contents t) cs) (levels_of t).level
 
   keep_names : names (placed_of leaves) ≡ names (levels_of t).level
-  keep_names = names-worked_leaves s (net_run (contents t) cs) (levels_of t).level
+  keep_names = names-updated_leaves s (net_run (contents t) cs) (levels_of t).level
 
   pub planned_are_levels : AreLevels (planned_levels s t cs)
   planned_are_levels =
@@ -137,10 +137,10 @@ module _ {A : Type 0} (s : Settings) (t : Tree) (cs : List (Command A)) (fan : 1
 
   -- ---- its contents
 
-  worked_contents : (ps : List (Placed (List ℕ))) → 0 < length ps → Tiled ps None → joined (placed_of (worked_leaves s (net_run (joined ps) cs) ps)) ≡ map_after_all (joined ps) cs
-  worked_contents [] h d = absurd (omega arith)
-  worked_contents (p ∷ ps) h d =
-      joined-worked_leaves s (net_run (joined (p ∷ ps)) cs) p ps None d ∙ with_run-net_run (joined (p ∷ ps)) cs (rising-joined (p ∷ ps) None d)
+  updated_contents : (ps : List (Placed (List ℕ))) → 0 < length ps → Tiled ps None → joined (placed_of (updated_leaves s (net_run (joined ps) cs) ps)) ≡ map_after_all (joined ps) cs
+  updated_contents [] h d = absurd (omega arith)
+  updated_contents (p ∷ ps) h d =
+      joined-updated_leaves s (net_run (joined (p ∷ ps)) cs) p ps None d ∙ with_run-net_run (joined (p ∷ ps)) cs (rising-joined (p ∷ ps) None d)
 
   -- the plan's contents are the map after the commands
   pub contents_of_planned : contents (planned_tree s t cs) ≡ map_after_all (contents t) cs
@@ -148,7 +148,7 @@ module _ {A : Type 0} (s : Settings) (t : Tree) (cs : List (Command A)) (fan : 1
       let l : Levels = levels_of t in
       ap (λ (x : Levels). joined x.level) levels_of_planned
       ∙ joined-climb s (keys_of t.pages) 0 leaves l.above l.level keep_names proper.levels.stacked
-      ∙ worked_contents l.level (some_page l.level [] proper.levels.first) proper.levels.tiled
+      ∙ updated_contents l.level (some_page l.level [] proper.levels.first) proper.levels.tiled
 
   -- ---- it is proper
 

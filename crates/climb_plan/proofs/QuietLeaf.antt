@@ -19,10 +19,10 @@ use Rattle.mapping.specs.Tree.{Tree}
 use Rattle.mapping.specs.TreeInMemory.{TreeInMemory, AreAllHome, tree_of}
 use Rattle.mapping.specs.Outdate.{outdate_all}
 use Rattle.mapping.proofs.PidLemmas.{among_apart}
-use Rattle.mapping.proofs.TileLemmas.{Names}
-use Rattle.page_runs.specs.Worked.{Worked, is_thin_class, is_fat_class, is_thin, is_fat}
+use Rattle.mapping.proofs.TileLemmas.{Separators}
+use Rattle.page_runs.specs.Updated.{Updated, is_thin_class, is_fat_class, is_thin, is_fat}
 use Rattle.split_plan.specs.Groups.{Gathered, gathered, groups}
-use Rattle.split_plan.specs.WorkedLevel.{worked_parents, placed_of}
+use Rattle.split_plan.specs.UpdatedLevel.{updated_parents, placed_of}
 use Rattle.split_plan.specs.Change.{Change, changes, family_changes, new_of, fresh_of, all_new, all_fresh, outdated, all_outdated}
 use Rattle.split_plan.specs.Terms.{freed_of, terms}
 use Rattle.climb_plan.specs.Changing.{SeenPage, page_seen, AreSeen, AreHome}
@@ -40,23 +40,23 @@ use Rattle.climb_plan.proofs.Untouched.{all_same, parents_same, as_they_were, cl
 
 -- ---- pages that are no reason to rewrite a group
 
-pub record IsQuiet {V : Type 0} (w : Worked V) : Type 0 where
+pub record IsQuiet {V : Type 0} (w : Updated V) : Type 0 where
   pub kept : is_thin w ≡ false
   pub small : is_fat w ≡ false
   pub same : w.replaced ≡ false
 
 module _ {V : Type 0} where
-  abbrev AreQuiet : List (Worked V) → Type 0
+  abbrev AreQuiet : List (Updated V) → Type 0
   AreQuiet ws = AllByRecursion IsQuiet ws
 
-  abbrev alone : List (Worked V) → List (List (Worked V))
+  abbrev alone : List (Updated V) → List (List (Updated V))
   alone ws = map (λ w. w ∷ []) ws
 
-  gathered_quiet : (ws : List (Worked V)) → AreQuiet ws → (let g : Gathered (Worked V) = record { leading = []; groups = alone ws } in gathered is_thin ws ≡ g)
+  gathered_quiet : (ws : List (Updated V)) → AreQuiet ws → (let g : Gathered (Updated V) = record { leading = []; groups = alone ws } in gathered is_thin ws ≡ g)
   gathered_quiet [] q = refl
   gathered_quiet (w ∷ ws) q = rw (gathered_quiet ws q.1, q.0.kept) refl
 
-  groups_quiet : (ws : List (Worked V)) → AreQuiet ws → groups is_thin ws ≡ alone ws
+  groups_quiet : (ws : List (Updated V)) → AreQuiet ws → groups is_thin ws ≡ alone ws
   groups_quiet ws q = rw (gathered_quiet ws q) refl
 
   -- changes by which these pages stay
@@ -70,21 +70,21 @@ module _ {V : Type 0} where
   no_terms cs e f = rw (e, f) refl
 
   -- of a page that stays as a group by itself
-  abbrev staying : Worked V → Change V
+  abbrev staying : Updated V → Change V
   staying w = record { members = w ∷ []; pages = w.placed ∷ [] }
 
-  changes_quiet : (s : Settings) (used : List ℕ) (i : ℕ) (ws : List (Worked V)) → AreQuiet ws → changes s used i (alone ws) ≡ map staying ws
+  changes_quiet : (s : Settings) (used : List ℕ) (i : ℕ) (ws : List (Updated V)) → AreQuiet ws → changes s used i (alone ws) ≡ map staying ws
   changes_quiet s used i [] q = refl
   changes_quiet s used i (w ∷ ws) q = rw q.0.small (ap (λ (cs : List (Change V)). staying w ∷ cs) (changes_quiet s used (i + 0) ws q.1))
 
-  idle_staying : (ws : List (Worked V)) → AreQuiet ws → AreIdle (map staying ws) (placed_of ws)
+  idle_staying : (ws : List (Updated V)) → AreQuiet ws → AreIdle (map staying ws) (placed_of ws)
   idle_staying [] q = record { new = refl; fresh = refl; freed = refl; outdated = refl }
   idle_staying (w ∷ ws) q =
       let rest = idle_staying ws q.1 in
       record { new = ap (λ (ps : List (Placed V)). w.placed ∷ ps) rest.new; fresh = rest.fresh; freed = rest.freed; outdated = rw (q.0.small, q.0.same) rest.outdated }
 
-  idle : (s : Settings) (used : List ℕ) (i : ℕ) (ws : List (Worked V)) → AreQuiet ws → AreIdle (changes s used i (groups is_thin ws)) (placed_of ws)
-  idle s used i ws q = subst (λ (cs : List (Change V)). AreIdle cs (placed_of ws)) (sym (ap (λ (gs : List (List (Worked V))). changes s used i gs) (groups_quiet ws q) ∙ changes_quiet s used i ws q)) (idle_staying ws q)
+  idle : (s : Settings) (used : List ℕ) (i : ℕ) (ws : List (Updated V)) → AreQuiet ws → AreIdle (changes s used i (groups is_thin ws)) (placed_of ws)
+  idle s used i ws q = subst (λ (cs : List (Change V)). AreIdle cs (placed_of ws)) (sym (ap (λ (gs : List (List (Updated V))). changes s used i gs) (groups_quiet ws q) ∙ changes_quiet s used i ws q)) (idle_staying ws q)
 
   -- the same of all families of a level
   record AreAllIdle (css : List (List (Change V))) (ps : List (Placed V)) : Type 0 where
@@ -92,21 +92,21 @@ module _ {V : Type 0} where
     pub termed : AllByRecursion (λ run. run ≡ []) (map terms css)
     pub outdated : all_outdated css ≡ []
 
-  quiet_take : (n : ℕ) (ws : List (Worked V)) → AreQuiet ws → AreQuiet (take n ws) × AreQuiet (drop n ws)
+  quiet_take : (n : ℕ) (ws : List (Updated V)) → AreQuiet ws → AreQuiet (take n ws) × AreQuiet (drop n ws)
   quiet_take zero ws q = (tt, q)
   quiet_take (suc n) [] q = (tt, tt)
   quiet_take (suc n) (w ∷ ws) q = let r = quiet_take n ws q.1 in ((q.0, r.0), r.1)
 
-  placed-append : (ws vs : List (Worked V)) → placed_of (ws ++ vs) ≡ placed_of ws ++ placed_of vs
+  placed-append : (ws vs : List (Updated V)) → placed_of (ws ++ vs) ≡ placed_of ws ++ placed_of vs
   placed-append [] vs = refl
   placed-append (w ∷ ws) vs = ap (λ (ps : List (Placed V)). w.placed ∷ ps) (placed-append ws vs)
 
-  idle_families : (s : Settings) (used : List ℕ) (i : ℕ) (ps : List (Placed ℕ)) (ws : List (Worked V)) → AreQuiet ws → AreAllIdle (family_changes s used i (families ps ws)) (placed_of (flat (families ps ws)))
+  idle_families : (s : Settings) (used : List ℕ) (i : ℕ) (ps : List (Placed ℕ)) (ws : List (Updated V)) → AreQuiet ws → AreAllIdle (family_changes s used i (families ps ws)) (placed_of (flat (families ps ws)))
   idle_families s used i [] ws q = record { new = refl; termed = tt; outdated = refl }
   idle_families s used i (p ∷ ps) ws q =
       let n : ℕ = length (entries p) in
       let parts = quiet_take n ws q in
-      let f : List (Worked V) = take n ws in
+      let f : List (Updated V) = take n ws in
       let cs : List (Change V) = changes s used i (groups is_thin f) in
       let here : AreIdle cs (placed_of f) = idle s used i f parts.0 in
       let j : ℕ = i + length (fresh_of cs) in
@@ -119,18 +119,18 @@ module _ {V : Type 0} where
       }
 
 -- a climb from such a level leaves its pages as they are, and all levels above
-climb_quiet : {V : Type 0} (s : Settings) (used : List ℕ) (i : ℕ) (ws : List (Worked V)) (ups : List (List (Placed ℕ))) → AreQuiet ws → Stacked (placed_of ws) ups → climb s used i ws ups ≡ as_they_were (placed_of ws) ups
+climb_quiet : {V : Type 0} (s : Settings) (used : List ℕ) (i : ℕ) (ws : List (Updated V)) (ups : List (List (Placed ℕ))) → AreQuiet ws → Stacked (placed_of ws) ups → climb s used i ws ups ≡ as_they_were (placed_of ws) ups
 climb_quiet s used i [] [] q o = absurd (omega arith)
 climb_quiet s used i (w ∷ []) [] q o = rw (q.0.small, q.0.same) refl
 climb_quiet s used i (w ∷ v ∷ ws) [] q o = absurd (omega arith)
 climb_quiet {V} s used i ws (parents ∷ ups) q o =
     let css : List (List (Change V)) = family_changes s used i (families parents ws) in
     let r : AreAllIdle css (placed_of (flat (families parents ws))) = idle_families s used i parents ws q in
-    let count : length (joined parents) ≡ length ws = ap (λ (ns : Names). length ns) o.0.linked ∙ length-map (placed_of ws) name ∙ length-map ws (λ (w : Worked V). w.placed) in
-    let level : all_new css ≡ placed_of ws = r.new ∙ ap (λ (vs : List (Worked V)). placed_of vs) (families_by_length parents ws count) in
+    let count : length (joined parents) ≡ length ws = ap (λ (ns : Separators). length ns) o.0.linked ∙ length-map (placed_of ws) name ∙ length-map ws (λ (w : Updated V). w.placed) in
+    let level : all_new css ≡ placed_of ws = r.new ∙ ap (λ (vs : List (Updated V)). placed_of vs) (families_by_length parents ws count) in
     let j : ℕ = i + length (all_fresh css) in
-    let vs : worked_parents s parents (map terms css) ≡ all_same parents = parents_same s parents (map terms css) r.termed in
-    let up = ap (λ (us : List (Worked ℕ)). climb s used j us ups) vs ∙ climb_same s used j parents ups o.1 in
+    let vs : updated_parents s parents (map terms css) ≡ all_same parents = parents_same s parents (map terms css) r.termed in
+    let up = ap (λ (us : List (Updated ℕ)). climb s used j us ups) vs ∙ climb_same s used j parents ups o.1 in
     let nothing : all_outdated css ≡ [] = r.outdated in
     rw (up, nothing, level) refl
 
@@ -174,9 +174,9 @@ pub record IsSeenQuiet (x : SeenPage) : Type 0 where
   pub small : is_fat_class x.class ≡ false
   pub same : x.replaced ≡ false
 
-quiet_level : (t : Mapping PageOfKind) (xs : List SeenPage) (ws : List (Worked (List ℕ))) → AreSeen Leaf t xs ws → AllByRecursion IsSeenQuiet xs → AreQuiet ws
+quiet_level : (t : Mapping PageOfKind) (xs : List SeenPage) (ws : List (Updated (List ℕ))) → AreSeen Leaf t xs ws → AllByRecursion IsSeenQuiet xs → AreQuiet ws
 quiet_level t xs ws (AreSeen.none) q = tt
-quiet_level t xs ws (AreSeen.worked {xs = ys} {ws = vs} w h a) q = (record { kept = q.0.kept; small = q.0.small; same = q.0.same }, quiet_level t ys vs a q.1)
+quiet_level t xs ws (AreSeen.updated {xs = ys} {ws = vs} w h a) q = (record { kept = q.0.kept; small = q.0.small; same = q.0.same }, quiet_level t ys vs a q.1)
 quiet_level t xs ws (AreSeen.at_home {ws = vs} p h a) q = (record { kept = refl; small = refl; same = refl }, quiet_level t xs vs a q)
 
 module _ (t : Mapping PageOfKind) (k : ℕ) (p : PageOfKind) (away : place_of t k ≡ Some None) where
@@ -192,19 +192,19 @@ module _ (t : Mapping PageOfKind) (k : ℕ) (p : PageOfKind) (away : place_of t 
   stay_above [] h = tt
   stay_above (l ∷ ls) h = (stay Index l h.0, stay_above ls h.1)
 
-  none_seen : (xs : List SeenPage) (ws : List (Worked (List ℕ))) → xs ≡ [] → AreSeen Leaf t xs ws → AreHome Leaf (with_place t k (Some p)) (placed_of ws)
+  none_seen : (xs : List SeenPage) (ws : List (Updated (List ℕ))) → xs ≡ [] → AreSeen Leaf t xs ws → AreHome Leaf (with_place t k (Some p)) (placed_of ws)
   none_seen xs ws e (AreSeen.none) = tt
-  none_seen xs ws e (AreSeen.worked w h a) = absurd (cc)
+  none_seen xs ws e (AreSeen.updated w h a) = absurd (cc)
   none_seen xs ws e (AreSeen.at_home {ws = vs} q h a) = (stays q.pid (Leaf q.page) h, none_seen xs vs e a)
 
-away_there : (t : Mapping PageOfKind) (x : SeenPage) (xs : List SeenPage) (ws : List (Worked (List ℕ))) → xs ≡ x ∷ [] → AreSeen Leaf t xs ws → place_of t x.pid ≡ Some None
+away_there : (t : Mapping PageOfKind) (x : SeenPage) (xs : List SeenPage) (ws : List (Updated (List ℕ))) → xs ≡ x ∷ [] → AreSeen Leaf t xs ws → place_of t x.pid ≡ Some None
 away_there t x xs ws e (AreSeen.none) = absurd (cc)
-away_there t x xs ws e (AreSeen.worked w h a) = let same : page_seen Leaf w ≡ x = cc in ap (λ (y : SeenPage). place_of t y.pid) (sym same) ∙ h
+away_there t x xs ws e (AreSeen.updated w h a) = let same : page_seen Leaf w ≡ x = cc in ap (λ (y : SeenPage). place_of t y.pid) (sym same) ∙ h
 away_there t x xs ws e (AreSeen.at_home {ws = vs} q h a) = away_there t x xs vs e a
 
-home_again : (t : Mapping PageOfKind) (x : SeenPage) (away : place_of t x.pid ≡ Some None) (xs : List SeenPage) (ws : List (Worked (List ℕ))) → xs ≡ x ∷ [] → AreSeen Leaf t xs ws → AreHome Leaf (with_place t x.pid (Some x.page)) (placed_of ws)
+home_again : (t : Mapping PageOfKind) (x : SeenPage) (away : place_of t x.pid ≡ Some None) (xs : List SeenPage) (ws : List (Updated (List ℕ))) → xs ≡ x ∷ [] → AreSeen Leaf t xs ws → AreHome Leaf (with_place t x.pid (Some x.page)) (placed_of ws)
 home_again t x away xs ws e (AreSeen.none) = absurd (cc)
-home_again t x away xs ws e (AreSeen.worked {xs = ys} {ws = vs} w h a) =
+home_again t x away xs ws e (AreSeen.updated {xs = ys} {ws = vs} w h a) =
     let same : page_seen Leaf w ≡ x = cc in
     let rest : ys ≡ [] = cc in
     let here : place_of (with_place t x.pid (Some x.page)) w.placed.pid ≡ Some (Some (Leaf w.placed.page)) =
@@ -234,9 +234,9 @@ module _ {A : Type 0} (s : Settings) (fan : 1 < s.fan) (t : Tree) (cs : List (Co
   others_stay : (n : ℕ) → is_among n (pids level) ≡ false → place_of now.table n ≡ place_of m.table n
   others_stay n h = placed_apart m.table x.pid (Some x.page) n (λ e. absurd (not_there (leaves_after s t cs fan r.proper) (x ∷ []) refl r.leaves n e h))
     where
-      not_there : (ws : List (Worked (List ℕ))) (xs : List SeenPage) → xs ≡ x ∷ [] → AreSeen Leaf m.table xs ws → (n : ℕ) → n ≡ x.pid → is_among n (pids (placed_of ws)) ≡ false → ⊥
+      not_there : (ws : List (Updated (List ℕ))) (xs : List SeenPage) → xs ≡ x ∷ [] → AreSeen Leaf m.table xs ws → (n : ℕ) → n ≡ x.pid → is_among n (pids (placed_of ws)) ≡ false → ⊥
       not_there ws xs e (AreSeen.none) n i h = absurd (cc)
-      not_there ws xs e (AreSeen.worked {ws = vs} w k a) n i h =
+      not_there ws xs e (AreSeen.updated {ws = vs} w k a) n i h =
           let same : page_seen Leaf w ≡ x = cc in
           let pid : w.placed.pid ≡ x.pid = ap (λ (y : SeenPage). y.pid) same in
           (none_of n w.placed.pid (pids (placed_of vs)) h).0 (i ∙ sym pid)

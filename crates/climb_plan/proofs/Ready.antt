@@ -17,8 +17,8 @@ use Rattle.mapping.specs.Tree.Logged.{No, Old, Upto}
 use Rattle.mapping.specs.TreeInMemory.{TreeInMemory, AreAllHome, tree_of}
 use Rattle.mapping.proofs.SameTree.{root_on_top}
 use Rattle.mapping.proofs.TileLemmas.{next_low-same}
-use Rattle.page_runs.specs.Worked.{Worked}
-use Rattle.split_plan.specs.WorkedLevel.{placed_of}
+use Rattle.page_runs.specs.Updated.{Updated}
+use Rattle.split_plan.specs.UpdatedLevel.{placed_of}
 use Rattle.climb_plan.specs.Changing.{SeenPage}
 use Rattle.climb_plan.specs.Climb.{Climbed, LevelPlan, kept_levels}
 use Rattle.climb_plan.specs.HasClimbed.{HasClimbed, CanShrink, HasShrunk}
@@ -66,7 +66,7 @@ logs_by t ps (l ∷ ls) e h = (λ n. old_by (page_at ps l.0) l.1 (none_alike l.0
 -- ---- the leaves
 
 module _ {A : Type 0} (s : Settings) (fan : 1 < s.fan) (t : Tree) (cs : List (Command A)) (m : TreeInMemory) (xs : List SeenPage) (r : IsReady s t cs m xs) where
-  abbrev leaves : List (Worked (List ℕ))
+  abbrev leaves : List (Updated (List ℕ))
   leaves = leaves_after s t cs fan r.proper
 
   abbrev same_names : names (placed_of leaves) ≡ names (levels_of t).level

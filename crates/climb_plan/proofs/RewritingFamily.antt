@@ -15,8 +15,8 @@ use Rattle.climb_plan.specs.declared.seen.Seen.{Seen}
 use Rattle.climb_plan.proofs.LevelParts.{family_of}
 use Rattle.climb_plan.proofs.RewritingSeen.{rising_later}
 
-abbrev pub Names : Type 0
-Names = List (List ℕ × ℕ)
+abbrev pub Separators : Type 0
+Separators = List (List ℕ × ℕ)
 
 -- ---- parts of lists
 
@@ -48,7 +48,7 @@ all_taken {X} (x ∷ xs) (suc n) e = let r = all_taken xs n (omega arith) in (ap
 
 -- ---- the walk over the children
 
-module _ (t : Mapping PageOfKind) (seen : List Seen) (es : Names) (children later : List SeenPage) where
+module _ (t : Mapping PageOfKind) (seen : List Seen) (es : Separators) (children later : List SeenPage) where
   -- the children before `at` are seen; the remaining ones, and the pages after them, begin at `next`
   pub record IsSoFar (next at : ℕ) (made : List SeenPage) : Type 0 where
     pub named : es ≡ map seen_name children
@@ -62,7 +62,7 @@ module _ (t : Mapping PageOfKind) (seen : List Seen) (es : Names) (children late
     pub next_child : IsNextChild t (all_seen (drop next seen)) low pid x (drop (at + 1) children ++ later)
 
   within : (at : ℕ) → es ≡ map seen_name children → at < length es → at < length children
-  within at e l = let n : length es ≡ length children = ap (λ (ns : Names). length ns) e ∙ length-map children seen_name in omega arith
+  within at e l = let n : length es ≡ length children = ap (λ (ns : Separators). length ns) e ∙ length-map children seen_name in omega arith
 
   pub child_at : (next at : ℕ) (made : List SeenPage) (low : List ℕ) (pid : ℕ) → IsSoFar next at made → at < length es → slice_get (keys_of es) at ≡ Some low → slice_get (values_of es) at ≡ Some pid → (x : SeenPage) × IsChildAt next at low pid x
   child_at next at made low pid h l k v =
@@ -74,8 +74,8 @@ module _ (t : Mapping PageOfKind) (seen : List Seen) (es : Names) (children late
           at_place = x.1;
           next_child = record {
             seen = subst (λ (xs : List SeenPage). AreSeenIn t (all_seen (drop next seen)) xs) parts h.left;
-            same_low = low_at children at x.0 low w x.1 (ap (λ (ns : Names). slice_get (keys_of ns) at) (sym h.named) ∙ k);
-            same_pid = pid_at children at x.0 pid w x.1 (ap (λ (ns : Names). slice_get (values_of ns) at) (sym h.named) ∙ v);
+            same_low = low_at children at x.0 low w x.1 (ap (λ (ns : Separators). slice_get (keys_of ns) at) (sym h.named) ∙ k);
+            same_pid = pid_at children at x.0 pid w x.1 (ap (λ (ns : Separators). slice_get (values_of ns) at) (sym h.named) ∙ v);
             rising = subst (λ (xs : List SeenPage). IsRising (map seen_name xs)) parts h.in_order;
           };
         },
@@ -95,7 +95,7 @@ module _ (t : Mapping PageOfKind) (seen : List Seen) (es : Names) (children late
 
   pub all_children : (next at : ℕ) (made : List SeenPage) → IsSoFar next at made → at ≡ length es → (made ≡ children) × AreSeenIn t (all_seen (drop next seen)) later
   all_children next at made h e =
-      let n : length es ≡ length children = ap (λ (ns : Names). length ns) h.named ∙ length-map children seen_name in
+      let n : length es ≡ length children = ap (λ (ns : Separators). length ns) h.named ∙ length-map children seen_name in
       let r = all_taken children at (omega arith) in
       (h.seen_so_far ∙ r.0, subst (λ (xs : List SeenPage). AreSeenIn t (all_seen (drop next seen)) (xs ++ later)) r.1 h.left)
 
@@ -119,7 +119,7 @@ module _ (t : Mapping PageOfKind) (seen : List Seen) (parent : ℕ) (p : Placed 
   pub before_within : length before ≤ length seen
   before_within = (following seen before from h.parted.joined).0
 
-  pub at_start : (es : Names) (next : ℕ) (made : List SeenPage) → es ≡ entries p → next ≡ length before → made ≡ [] → IsSoFar t seen es children later next 0 made
+  pub at_start : (es : Separators) (next : ℕ) (made : List SeenPage) → es ≡ entries p → next ≡ length before → made ≡ [] → IsSoFar t seen es children later next 0 made
   at_start es next made l n m =
       let r : all_seen (drop next seen) ≡ from = ap (λ (i : ℕ). all_seen (drop i seen)) n ∙ (following seen before from h.parted.joined).1 in
       record {
@@ -130,5 +130,5 @@ module _ (t : Mapping PageOfKind) (seen : List Seen) (parent : ℕ) (p : Placed 
       }
 
   -- the entries that were read
-  pub same_entries : (q : PageOfKind) (own : Page ℕ) (es : Names) → Some q ≡ page_of t parent → q ≡ Index own → es ≡ page.entries own → es ≡ entries p
+  pub same_entries : (q : PageOfKind) (own : Page ℕ) (es : Separators) → Some q ≡ page_of t parent → q ≡ Index own → es ≡ page.entries own → es ≡ entries p
   same_entries q own es f i r = let same : Index own ≡ Index p.page = sym i ∙ same_parent q f in let pages : own ≡ p.page = cc in r ∙ ap (λ (o : Page ℕ). page.entries o) pages

@@ -6,7 +6,7 @@ use Rattle.std.proofs.lemmas.List.{length-map, map-append}
 use Rattle.std.proofs.lemmas.List.Elements.{filter-append}
 use Rattle.keys.specs.Lists.{flat}
 use Rattle.page_runs.specs.declared.class.Class.{Class}
-use Rattle.page_runs.specs.Worked.{is_thin_class}
+use Rattle.page_runs.specs.Updated.{is_thin_class}
 use Rattle.split_plan.specs.Groups.{Gathered, with_child, gathered, with_leading, groups}
 use Rattle.split_plan.proofs.GroupLemmas.{groups-joined}
 use Rattle.climb_plan.specs.Changing.{SeenPage}

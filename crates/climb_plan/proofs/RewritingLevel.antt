@@ -18,13 +18,13 @@ use Rattle.mapping.specs.Table.{Mapping, page_of}
 use Rattle.mapping.specs.TreeInMemory.{TreeInMemory}
 use Rattle.mapping.proofs.TileLemmas.{tiled_apart, from-joined, before-joined, rising-joined}
 use Rattle.page_runs.specs.declared.class.Class.{Class}
-use Rattle.page_runs.specs.Worked.{is_fat_class}
+use Rattle.page_runs.specs.Updated.{is_fat_class}
 use Rattle.split_plan.specs.Groups.{Gathered, with_child, gathered, with_leading}
-use Rattle.climb_plan.specs.Changing.{SeenPage, calls}
+use Rattle.climb_plan.specs.Changing.{SeenPage, needs_restructuring}
 use Rattle.climb_plan.specs.Rewriting.{seen_name, lows, AreSeenIn, is_thin_seen, is_rewritten_seen, rewritten_groups, Rewriting, with_rewriting, rewriting_families, rewriting_counts, groups_of, IsLevelSeen, IsQuiet, HasFirstCall, pids_for, IsFamilyOf}
-use Rattle.climb_plan.specs.Rewriting.AreSeenIn.{worked, at_home}
+use Rattle.climb_plan.specs.Rewriting.AreSeenIn.{updated, at_home}
 use Rattle.climb_plan.proofs.DescentWay.{pid_for}
-use Rattle.climb_plan.proofs.RewritingFamily.{Names}
+use Rattle.climb_plan.proofs.RewritingFamily.{Separators}
 use Rattle.climb_plan.proofs.RewritingSeen.{all_lows}
 use Rattle.climb_plan.proofs.LevelParts.{family_of}
 
@@ -53,14 +53,14 @@ still_family xs h = let q = still_gathered xs h in still_leading (gathered is_th
 
 -- ---- parts of a level
 
-names_apart : (es fs : Names) (xs : List SeenPage) → es ++ fs ≡ map seen_name xs → (es ≡ map seen_name (take (length es) xs)) × (fs ≡ map seen_name (drop (length es) xs))
+names_apart : (es fs : Separators) (xs : List SeenPage) → es ++ fs ≡ map seen_name xs → (es ≡ map seen_name (take (length es) xs)) × (fs ≡ map seen_name (drop (length es) xs))
 names_apart [] fs xs e = (refl, e)
 names_apart (n ∷ es) fs [] e = absurd (cc)
 names_apart (n ∷ es) fs (x ∷ xs) e =
     let first : n ≡ seen_name x = cc in
     let rest : es ++ fs ≡ map seen_name xs = cc in
     let r = names_apart es fs xs rest in
-    (ap (λ (m : List ℕ × ℕ). m ∷ es) first ∙ ap (λ (ns : Names). seen_name x ∷ ns) r.0, r.1)
+    (ap (λ (m : List ℕ × ℕ). m ∷ es) first ∙ ap (λ (ns : Separators). seen_name x ∷ ns) r.0, r.1)
 
 -- a part of a list ends after an element, or before it
 split_by : {X : Type 0} (xs ys ds bs : List X) (x : X) → xs ++ ys ≡ ds ++ x ∷ bs → ((more : List X) × (xs ≡ ds ++ x ∷ more)) ⊎ ((cs : List X) × (ds ≡ xs ++ cs) × (ys ≡ cs ++ x ∷ bs))
@@ -77,19 +77,19 @@ split_by {X} (z ∷ zs) ys (a ∷ ds) bs x e =
 module _ (t : Mapping PageOfKind) where
   seen_apart : {xs : List SeenPage} (ds bs : List SeenPage) → AreSeenIn t xs (ds ++ bs) → (own : List SeenPage) × (after : List SeenPage) × (xs ≡ own ++ after) × AreSeenIn t own ds × AreSeenIn t after bs
   seen_apart {xs} [] bs s = ([], xs, refl, AreSeenIn.none, s)
-  seen_apart (a ∷ ds) bs (worked x s) = let r = seen_apart ds bs s in (x ∷ r.0, r.1, ap (λ (ys : List SeenPage). x ∷ ys) r.2, worked x r.3, r.4)
+  seen_apart (a ∷ ds) bs (updated x s) = let r = seen_apart ds bs s in (x ∷ r.0, r.1, ap (λ (ys : List SeenPage). x ∷ ys) r.2, updated x r.3, r.4)
   seen_apart (a ∷ ds) bs (at_home x c p h s) = let r = seen_apart ds bs s in (r.0, r.1, r.2, at_home x c p h r.3, r.4)
 
   seen_joined : {xs ds : List SeenPage} (ys bs : List SeenPage) → AreSeenIn t xs ds → AreSeenIn t ys bs → AreSeenIn t (xs ++ ys) (ds ++ bs)
   seen_joined ys bs (AreSeenIn.none) r = r
-  seen_joined ys bs (worked x s) r = worked x (seen_joined ys bs s r)
+  seen_joined ys bs (updated x s) r = updated x (seen_joined ys bs s r)
   seen_joined ys bs (at_home x c p h s) r = at_home x c p h (seen_joined ys bs s r)
 
   -- if no page that got a run needs restructuring, no page does
   all_quiet : {xs all : List SeenPage} → AreSeenIn t xs all → AllByRecursion IsQuiet xs → AllByRecursion IsQuiet all
   all_quiet (AreSeenIn.none) h = tt
-  all_quiet (worked x s) h = (h.0, all_quiet s h.1)
-  all_quiet (at_home x c p h s) q = (ap (λ (k : Class). calls k) c, all_quiet s q)
+  all_quiet (updated x s) h = (h.0, all_quiet s h.1)
+  all_quiet (at_home x c p h s) q = (ap (λ (k : Class). needs_restructuring k) c, all_quiet s q)
 
   not_seen : {xs : List SeenPage} (quiet more : List SeenPage) (x : SeenPage) → AreSeenIn t xs [] → xs ≡ quiet ++ x ∷ more → ⊥
   not_seen [] more x (AreSeenIn.none) e = absurd (cc)
@@ -172,7 +172,7 @@ module _ (t : Mapping PageOfKind) where
               quiet = c.quiet;
               more = c.more;
               parts = ap (λ (qs : List (Placed ℕ)). p ∷ qs) c.parts;
-              front_linked = ap (λ (ns : Names). ns ++ joined c.front) names.0 ∙ ap (λ (ns : Names). map seen_name f ++ ns) c.front_linked ∙ sym (map-append seen_name f c.skipped);
+              front_linked = ap (λ (ns : Separators). ns ++ joined c.front) names.0 ∙ ap (λ (ns : Separators). map seen_name f ++ ns) c.front_linked ∙ sym (map-append seen_name f c.skipped);
               own_linked = c.own_linked;
               later_linked = c.later_linked;
               seen_parts = a.2 ∙ ap (λ (zs : List SeenPage). a.0 ++ zs) c.seen_parts ∙ sym (append_assoc a.0 c.before (c.own ++ c.after));
@@ -258,7 +258,7 @@ module _ (t : TreeInMemory) (depth : ℕ) (all_xs all : List SeenPage) (ps : Lis
     tiles = tiled_apart found.front (found.parent ∷ found.following) None (subst (λ (qs : List (Placed ℕ)). Tiled qs None) found.parts apart)
 
     names_from : joined (found.parent ∷ found.following) ≡ map seen_name (found.children ++ found.later)
-    names_from = ap (λ (ns : Names). ns ++ joined found.following) found.own_linked ∙ ap (λ (ns : Names). map seen_name found.children ++ ns) found.later_linked ∙ sym (map-append seen_name found.children found.later)
+    names_from = ap (λ (ns : Separators). ns ++ joined found.following) found.own_linked ∙ ap (λ (ns : Separators). map seen_name found.children ++ ns) found.later_linked ∙ sym (map-append seen_name found.children found.later)
 
     home : page_of t.table found.parent.pid ≡ Some (Index found.parent.page)
     home =
@@ -274,17 +274,17 @@ module _ (t : TreeInMemory) (depth : ℕ) (all_xs all : List SeenPage) (ps : Lis
       home = home;
       parted = record {
         joined = found.seen_parts;
-        below = all_lows (λ k. is_below k found.parent.page.low ≡ true) found.seen_before (subst (λ (ns : Names). AreBelow found.parent.page.low (keys_of ns)) found.front_linked (before-joined found.front (Some found.parent.page.low) tiles.0));
-        others = all_lows (λ k. is_below k found.parent.page.low ≡ false) seen_from (subst (λ (ns : Names). AreFrom found.parent.page.low (keys_of ns)) names_from (from-joined found.parent found.following None tiles.1));
+        below = all_lows (λ k. is_below k found.parent.page.low ≡ true) found.seen_before (subst (λ (ns : Separators). AreBelow found.parent.page.low (keys_of ns)) found.front_linked (before-joined found.front (Some found.parent.page.low) tiles.0));
+        others = all_lows (λ k. is_below k found.parent.page.low ≡ false) seen_from (subst (λ (ns : Separators). AreFrom found.parent.page.low (keys_of ns)) names_from (from-joined found.parent found.following None tiles.1));
       };
       seen = seen_from;
       linked = found.own_linked;
-      rising = subst (λ (ns : Names). IsRising ns) names_from (rising-joined (found.parent ∷ found.following) None tiles.1);
+      rising = subst (λ (ns : Separators). IsRising ns) names_from (rising-joined (found.parent ∷ found.following) None tiles.1);
     }
 
     in_own : (P : List ℕ → Type 0) → AllByRecursion P (keys_of (entries found.parent)) → P (low_of (f.1).page)
     in_own P a =
-        let own : AllByRecursion P (lows found.own) = all_lows P found.seen_own (subst (λ (ns : Names). AllByRecursion P (keys_of ns)) found.own_linked a) in
+        let own : AllByRecursion P (lows found.own) = all_lows P found.seen_own (subst (λ (ns : Separators). AllByRecursion P (keys_of ns)) found.own_linked a) in
         low_in P found.quiet found.more f.1 (subst (λ (ys : List SeenPage). AllByRecursion P (lows ys)) found.has own)
 
     is_inside : is_before (next_low found.following None) (low_of (f.1).page) ≡ true
@@ -305,7 +305,7 @@ module _ (t : TreeInMemory) (depth : ℕ) (all_xs all : List SeenPage) (ps : Lis
     pub has_gone : AreSeenIn t.table xs found.later → ⊥
     has_gone seen =
         let no : AllByRecursion (λ k. is_before (next_low found.following None) k ≡ false) (lows xs) =
-        all_lows (λ k. is_before (next_low found.following None) k ≡ false) seen (subst (λ (ns : Names). AllByRecursion (λ k. is_before (next_low found.following None) k ≡ false) (keys_of ns)) found.later_linked (all_after found.following tiles.1.1)) in
+        all_lows (λ k. is_before (next_low found.following None) k ≡ false) seen (subst (λ (ns : Separators). AllByRecursion (λ k. is_before (next_low found.following None) k ≡ false) (keys_of ns)) found.later_linked (all_after found.following tiles.1.1)) in
         let here = low_in (λ k. is_before (next_low found.following None) k ≡ false) f.0 f.2 f.1 (subst (λ (ys : List SeenPage). AllByRecursion (λ k. is_before (next_low found.following None) k ≡ false) (lows ys)) f.3.parted no) in
         let inside = is_inside in
         absurd (cc)

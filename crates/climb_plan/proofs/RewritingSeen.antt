@@ -14,9 +14,9 @@ use Rattle.index_page.specs.Rules.{is_same_key}
 use Rattle.mapping.specs.Table.{Mapping, page_of}
 use Rattle.page_runs.specs.declared.class.Class.{Class}
 use Rattle.page_runs.specs.declared.class.Class.TheVariants.{Same}
-use Rattle.climb_plan.specs.Changing.{SeenPage, calls}
+use Rattle.climb_plan.specs.Changing.{SeenPage, needs_restructuring}
 use Rattle.climb_plan.specs.Rewriting.{seen_now, all_seen, seen_name, lows, AreSeenIn, begins_at, IsNextChild, IsQuiet, HasFirstCall}
-use Rattle.climb_plan.specs.Rewriting.AreSeenIn.{worked, at_home}
+use Rattle.climb_plan.specs.Rewriting.AreSeenIn.{updated, at_home}
 use Rattle.climb_plan.specs.declared.seen.Seen.{Seen}
 
 -- one more element of a list that is copied as something else
@@ -41,7 +41,7 @@ left_at all i y l e = ap (λ (xs : List Seen). all_seen xs) (drop_more all i y l
 -- what holds of all low keys of a level holds of those of the pages that got a run
 pub all_lows : {t : Mapping PageOfKind} {xs all : List SeenPage} (P : List ℕ → Type 0) → AreSeenIn t xs all → AllByRecursion P (keys_of (map seen_name all)) → AllByRecursion P (lows xs)
 all_lows P (AreSeenIn.none) h = tt
-all_lows P (worked x s) h = (h.0, all_lows P s h.1)
+all_lows P (updated x s) h = (h.0, all_lows P s h.1)
 all_lows P (at_home x c r p s) h = all_lows P s h.1
 
 same_begin : (low : List ℕ) (x : SeenPage) (xs : List SeenPage) → begins_at low (x ∷ xs) ≡ true → low_of x.page ≡ low
@@ -64,12 +64,12 @@ unfolding IsStrictlySortedBy
 rising_later x later r = r.1
 
 -- the first page of a level got a run, where the first that got one has its low key
-pub child_worked : {t : Mapping PageOfKind} {xs later : List SeenPage} {x : SeenPage} (y : SeenPage) (ys : List SeenPage) → AreSeenIn t xs (x ∷ later) → xs ≡ y ∷ ys → IsRising (map seen_name (x ∷ later)) → begins_at (low_of x.page) xs ≡ true → (y ≡ x) × AreSeenIn t ys later
-child_worked {t} {later = later} y ys (worked {xs = more} x s) e r b =
+pub child_updated : {t : Mapping PageOfKind} {xs later : List SeenPage} {x : SeenPage} (y : SeenPage) (ys : List SeenPage) → AreSeenIn t xs (x ∷ later) → xs ≡ y ∷ ys → IsRising (map seen_name (x ∷ later)) → begins_at (low_of x.page) xs ≡ true → (y ≡ x) × AreSeenIn t ys later
+child_updated {t} {later = later} y ys (updated {xs = more} x s) e r b =
     let same : more ≡ ys = cc in
     let first : y ≡ x = cc in
     (first, subst (λ (zs : List SeenPage). AreSeenIn t zs later) same s)
-child_worked {xs = xs} {later = later} y ys (at_home x c p h s) e r b = absurd (not_later (low_of x.page) xs b (all_lows (λ k. order (low_of x.page) k ≡ Less) s (rising_first x later r)))
+child_updated {xs = xs} {later = later} y ys (at_home x c p h s) e r b = absurd (not_later (low_of x.page) xs b (all_lows (λ k. order (low_of x.page) k ≡ Less) s (rising_first x later r)))
 
 -- a page that got no run, with the pages after it
 pub record IsUntouched (t : Mapping PageOfKind) (xs : List SeenPage) (x : SeenPage) (later : List SeenPage) : Type 0 where
@@ -80,7 +80,7 @@ pub record IsUntouched (t : Mapping PageOfKind) (xs : List SeenPage) (x : SeenPa
 
 -- else it is in the table
 pub child_at_home : {t : Mapping PageOfKind} {xs later : List SeenPage} {x : SeenPage} → AreSeenIn t xs (x ∷ later) → begins_at (low_of x.page) xs ≡ false → IsUntouched t xs x later
-child_at_home (worked x s) b = absurd (let same : begins_at (low_of x.page) (x ∷ []) ≡ true = is_itself (low_of x.page) in cc)
+child_at_home (updated x s) b = absurd (let same : begins_at (low_of x.page) (x ∷ []) ≡ true = is_itself (low_of x.page) in cc)
 child_at_home (at_home x c p h s) b = record { class = c; replaced = p; home = h; rest = s }
 
 -- ---- the next child
@@ -104,9 +104,9 @@ module _ (t : Mapping PageOfKind) (low : List ℕ) (pid : ℕ) (x : SeenPage) (l
       let made : ℕ → PageOfKind → Class → Bool → SeenPage = λ i p c r. record { pid = i; page = p; class = c; replaced = r } in
       (m ∙ ap (λ (i : ℕ). made i page Same false) n.same_pid ∙ ap (λ (p : PageOfKind). made x.pid p Same false) same ∙ ap (λ (c : Class). made x.pid x.page c false) (sym h.class) ∙ ap (λ (r : Bool). made x.pid x.page x.class r) (sym h.replaced), h.rest)
 
-  pub worked_next : (all : List Seen) (i : ℕ) (y : Seen) → IsNextChild t (all_seen (drop i all)) low pid x later → begins_at low (all_seen (drop i all)) ≡ true → i < length all → y ≡ get_or all i y → (seen_now y ≡ x) × AreSeenIn t (all_seen (drop (i + 1) all)) later
-  worked_next all i y n b l e =
-      child_worked (seen_now y) (all_seen (drop (i + 1) all)) n.seen (left_at all i y l e) n.rising (ap (λ (k : List ℕ). begins_at k (all_seen (drop i all))) (sym n.same_low) ∙ b)
+  pub updated_next : (all : List Seen) (i : ℕ) (y : Seen) → IsNextChild t (all_seen (drop i all)) low pid x later → begins_at low (all_seen (drop i all)) ≡ true → i < length all → y ≡ get_or all i y → (seen_now y ≡ x) × AreSeenIn t (all_seen (drop (i + 1) all)) later
+  updated_next all i y n b l e =
+      child_updated (seen_now y) (all_seen (drop (i + 1) all)) n.seen (left_at all i y l e) n.rising (ap (λ (k : List ℕ). begins_at k (all_seen (drop i all))) (sym n.same_low) ∙ b)
 
 -- if some page begins with the key, the place is within the list
 pub begins_within : (low : List ℕ) (all : List Seen) (i : ℕ) → begins_at low (all_seen (drop i all)) ≡ true → i < length all
@@ -154,7 +154,7 @@ module _ (k : List ℕ) where
 
 -- ---- the first page that needs restructuring
 
-pub call_at : (all : List Seen) (i : ℕ) (y : Seen) (low : List ℕ) → i < length all → y ≡ get_or all i y → AllByRecursion IsQuiet (all_seen (take i all)) → calls y.class ≡ true → low ≡ low_of (page_shown y.page.now) → HasFirstCall (all_seen all) low
+pub call_at : (all : List Seen) (i : ℕ) (y : Seen) (low : List ℕ) → i < length all → y ≡ get_or all i y → AllByRecursion IsQuiet (all_seen (take i all)) → needs_restructuring y.class ≡ true → low ≡ low_of (page_shown y.page.now) → HasFirstCall (all_seen all) low
 call_at all i y low l e q c w =
     let parts : all_seen all ≡ all_seen (take i all) ++ seen_now y ∷ all_seen (drop (i + 1) all) =
     ap (λ (xs : List Seen). all_seen xs) (sym (take-append-drop i all)) ∙ map-append seen_now (take i all) (drop i all) ∙ ap (λ (xs : List SeenPage). all_seen (take i all) ++ xs) (left_at all i y l e) in

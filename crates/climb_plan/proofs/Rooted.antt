@@ -61,8 +61,8 @@ away_drawn tree drawn n ks all d e f =
 
 -- ---- names
 
-abbrev Name : Type 0
-Name = List ℕ × ℕ
+abbrev Separator : Type 0
+Separator = List ℕ × ℕ
 
 no_more : (pages : List PageOfKind) (ks : List ℕ) (n : ℕ) → length pages ≤ n → named_pages (drop n pages) (drop n ks) ≡ []
 no_more pages ks n h = ap (λ (qs : List PageOfKind). named_pages qs (drop n ks)) (drop_of_length-le pages h)
@@ -160,9 +160,9 @@ module _ (s : Settings) (used : List ℕ) (fan : 1 < s.fan) where
 -- ---- the pages of a level that grows
 
 abbrev Bases : Type 0
-Bases = List (List Name)
+Bases = List (List Separator)
 
-abbrev index_of_base : List Name → PageOfKind
+abbrev index_of_base : List Separator → PageOfKind
 index_of_base b = Index (bare (first_key b) b)
 
 range_next : (i n : ℕ) → range_with_len (i + 1) n ≡ range_with_len (suc i) n
@@ -175,7 +175,7 @@ pids-fresh_pages used i (b ∷ bs) =
 
 named-fresh_pages : (used : List ℕ) (i : ℕ) (bs : Bases) → named_pages (map index_of_base bs) (pids (fresh_pages used i bs)) ≡ names (fresh_pages used i bs)
 named-fresh_pages used i [] = refl
-named-fresh_pages used i (b ∷ bs) = ap (λ (ns : List Name). (first_key b, unused used i) ∷ ns) (named-fresh_pages used (suc i) bs)
+named-fresh_pages used i (b ∷ bs) = ap (λ (ns : List Separator). (first_key b, unused used i) ∷ ns) (named-fresh_pages used (suc i) bs)
 
 -- pages are numbered alike where the same numbers are unused
 fresh_pages-alike : (used other : List ℕ) (i j : ℕ) (bs : Bases) → ((m : ℕ) → unused other (j + m) ≡ unused used (i + m)) → fresh_pages other j bs ≡ fresh_pages used i bs
@@ -209,7 +209,7 @@ levels_stay t u (l ∷ ls) a b =
     (level_stays t u l parts.0 b.0, levels_stay t u ls parts.1 b.1)
 
 -- a level that is split from these entries, in a tree from which its pids were allocated
-pub record IsCut (s : Settings) (ns : List Name) (pages : List PageOfKind) (fresh : List ℕ) (upper : List Name) (tree drawn : TreeInMemory) : Type 0 where
+pub record IsCut (s : Settings) (ns : List Separator) (pages : List PageOfKind) (fresh : List ℕ) (upper : List Separator) (tree drawn : TreeInMemory) : Type 0 where
   pub fan : 1 < s.fan
   pub several : 1 < length ns
   pub rising : IsRising ns
@@ -218,7 +218,7 @@ pub record IsCut (s : Settings) (ns : List Name) (pages : List PageOfKind) (fres
   pub upper_is : upper ≡ named_pages pages fresh
   pub are_drawn : AreDrawn tree drawn fresh
 
-module _ (s : Settings) (ns : List Name) (pages : List PageOfKind) (fresh : List ℕ) (upper : List Name) (tree drawn : TreeInMemory) (is : IsCut s ns pages fresh upper tree drawn) where
+module _ (s : Settings) (ns : List Separator) (pages : List PageOfKind) (fresh : List ℕ) (upper : List Separator) (tree drawn : TreeInMemory) (is : IsCut s ns pages fresh upper tree drawn) where
   abbrev pub bases : Bases
   bases = cut s.fan ns
 
@@ -242,7 +242,7 @@ module _ (s : Settings) (ns : List Name) (pages : List PageOfKind) (fresh : List
 
   pub some_upper : 0 < length upper
   some_upper =
-      let a : length upper ≡ length cut_level = ap (λ (x : List Name). length x) upper_are ∙ length-map cut_level name in
+      let a : length upper ≡ length cut_level = ap (λ (x : List Separator). length x) upper_are ∙ length-map cut_level name in
       let b : length cut_level ≡ length bases = length-fresh_pages in_use 0 bases in
       let c : 0 < length bases = cut_some s.fan ns in
       omega arith
@@ -252,9 +252,9 @@ module _ (s : Settings) (ns : List Name) (pages : List PageOfKind) (fresh : List
       let zero_fan : 0 < s.fan = let f = is.fan in omega arith in
       let some : 0 < length ns = let f = is.several in omega arith in
       let full = cut_full s.fan ns zero_fan some in
-      let rising : IsRising (flat bases) = subst (λ (x : List Name). IsRising x) (sym (cut-joined s.fan ns)) is.rising in
+      let rising : IsRising (flat bases) = subst (λ (x : List Separator). IsRising x) (sym (cut-joined s.fan ns)) is.rising in
       let tiled : Tiled cut_level None = tiled-fresh_pages in_use 0 bases None full rising tt in
-      subst (λ (x : List Name). IsRising x) (sym upper_are) (rising-names cut_level None tiled)
+      subst (λ (x : List Separator). IsRising x) (sym upper_are) (rising-names cut_level None tiled)
 
   distinct_fresh : Distinct fresh
   distinct_fresh = subst Distinct (sym fresh_are) (distinct_renewed (renewed-fresh_pages in_use 0 bases) tt tt)
@@ -309,14 +309,14 @@ module _ (s : Settings) (ns : List Name) (pages : List PageOfKind) (fresh : List
     several_pages : 1 < length ps
     several_pages =
         let same : length (names ps) ≡ length ps = length-map ps name in
-        let all : length (names ps) ≡ length ns = ap (λ (x : List Name). length x) named in
+        let all : length (names ps) ≡ length ns = ap (λ (x : List Separator). length x) named in
         let h = is.several in
         omega arith
 
     up_is : cut_level ≡ up
     up_is =
         fresh_pages-alike used in_use i 0 bases (λ m. (let z : 0 + m ≡ m = omega arith in ap (unused in_use) z ∙ alike m))
-        ∙ ap (λ (x : List Name). fresh_pages used i (cut s.fan x)) (sym named)
+        ∙ ap (λ (x : List Separator). fresh_pages used i (cut s.fan x)) (sym named)
 
     pub up_named : names up ≡ upper
     up_named = ap (λ (qs : List (Placed ℕ)). names qs) (sym up_is) ∙ sym upper_are
@@ -345,7 +345,7 @@ module _ (s : Settings) (ns : List Name) (pages : List PageOfKind) (fresh : List
         let as_pages : length pages ≡ length fresh = sym (length_drawn tree (length pages) fresh is.fresh_is) in
         let under : AreUnder u fresh pages = home-put_under over.table fresh pages distinct_fresh as_pages in
         let own : AreUnder u (pids up) (map index_of_base (cut s.fan (names ps))) =
-        subst (λ (x : List Name). AreUnder u (pids up) (map index_of_base (cut s.fan x))) (sym named) (subst (λ (qs : List PageOfKind). AreUnder u (pids up) qs) is.pages_are (subst (λ (ks : List ℕ). AreUnder u ks pages) fresh_up under)) in
+        subst (λ (x : List Separator). AreUnder u (pids up) (map index_of_base (cut s.fan x))) (sym named) (subst (λ (qs : List PageOfKind). AreUnder u (pids up) qs) is.pages_are (subst (λ (ks : List ℕ). AreUnder u ks pages) fresh_up under)) in
         let apart : AllByRecursion (λ q. is_among q (pids up) ≡ false) (flat_map pids above) = none_after (pids up) (flat_map pids above) up_distinct in
         let put_apart : (q : ℕ) → is_among q (pids up) ≡ false → place_of u q ≡ place_of over.table q = λ q h. others-put_under q over.table fresh pages (ap (λ (ks : List ℕ). is_among q ks) fresh_up ∙ h) in
         let same : AllByRecursion (λ q. place_of u q ≡ place_of over.table q) (flat_map pids above) = each_other (λ q. is_among q (pids up) ≡ false) (λ q. place_of u q ≡ place_of over.table q) (flat_map pids above) put_apart apart in
@@ -374,7 +374,7 @@ module _ (s : Settings) (ns : List Name) (pages : List PageOfKind) (fresh : List
         subst (λ (ls : List (List (Placed ℕ))). 64 < height + length ls) (sym grown_is) more
 
 -- the parts of a level that is cut, as code has them
-pub cut_is : (s : Settings) (ns : List Name) (pages lent : List PageOfKind) (fresh : List ℕ) (upper : List Name) (tree drawn : TreeInMemory) → 1 < s.fan → 0 < length ns → (length ns ≡ 1 → ⊥) → IsRising ns → pages ≡ map index_of_base (cut s.fan ns) → lent ≡ pages
+pub cut_is : (s : Settings) (ns : List Separator) (pages lent : List PageOfKind) (fresh : List ℕ) (upper : List Separator) (tree drawn : TreeInMemory) → 1 < s.fan → 0 < length ns → (length ns ≡ 1 → ⊥) → IsRising ns → pages ≡ map index_of_base (cut s.fan ns) → lent ≡ pages
     → fresh ≡ fresh_pids (pids_in_use tree.table) (length lent) → upper ≡ named_pages lent fresh → AreDrawn tree drawn fresh → IsCut s ns pages fresh upper tree drawn
 cut_is s ns pages lent fresh upper tree drawn f some one r p l e u d = record {
   fan = f;

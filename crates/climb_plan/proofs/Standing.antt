@@ -16,9 +16,9 @@ use Rattle.mapping.specs.Proper.{Stacked}
 use Rattle.page_runs.specs.AfterRun.{must_replace, replaced, in_front}
 use Rattle.split_plan.specs.Groups.{groups}
 use Rattle.split_plan.proofs.GroupLemmas.{groups-joined}
-use Rattle.page_runs.specs.Worked.{Worked, worked, is_thin}
-use Rattle.split_plan.specs.WorkedLevel.{part_below, part_from, worked_leaves, worked_parents, placed_of}
-use Rattle.split_plan.proofs.RunLemmas.{names-worked_parents}
+use Rattle.page_runs.specs.Updated.{Updated, updated, is_thin}
+use Rattle.split_plan.specs.UpdatedLevel.{part_below, part_from, updated_leaves, updated_parents, placed_of}
+use Rattle.split_plan.proofs.RunLemmas.{names-updated_parents}
 use Rattle.split_plan.specs.Change.{Change, is_rewritten, remade, changes, family_changes, new_of, fresh_of, all_new, all_fresh, outdated, all_outdated}
 use Rattle.split_plan.proofs.ChangeLemmas.{remade_by}
 use Rattle.split_plan.specs.Terms.{terms}
@@ -50,25 +50,25 @@ module _ {V : Type 0} where
   stands_by true p c cs h = absurd (cc)
   stands_by false p c cs h = record { low = refl; base = refl; runs = ((c ∷ cs) ∷ [], refl) }
 
-  as_before-worked : (s : Settings) (p : Placed V) (run : List (List ℕ × Option V)) → (worked s p run).replaced ≡ false → IsAsBefore p (worked s p run).placed
-  as_before-worked s p [] h = record { pid = refl; page = record { low = refl; base = refl; runs = ([], refl) } }
-  as_before-worked s p (c ∷ cs) h = record { pid = refl; page = stands_by (must_replace s p.page.layers (c ∷ cs)) p.page c cs h }
+  as_before-updated : (s : Settings) (p : Placed V) (run : List (List ℕ × Option V)) → (updated s p run).replaced ≡ false → IsAsBefore p (updated s p run).placed
+  as_before-updated s p [] h = record { pid = refl; page = record { low = refl; base = refl; runs = ([], refl) } }
+  as_before-updated s p (c ∷ cs) h = record { pid = refl; page = stands_by (must_replace s p.page.layers (c ∷ cs)) p.page c cs h }
 
   -- each page after its run is as before, unless it was replaced
-  abbrev pub AreAsBefore : List (Placed V) → List (Worked V) → Type 0
+  abbrev pub AreAsBefore : List (Placed V) → List (Updated V) → Type 0
   AreAsBefore [] [] = ⊤
   AreAsBefore (p ∷ ps) (w ∷ ws) = (w.replaced ≡ false → IsAsBefore p w.placed) × AreAsBefore ps ws
   AreAsBefore _ _ = ⊥
 
-  pub as_before-worked_leaves : (s : Settings) (run : List (List ℕ × Option V)) (ps : List (Placed V)) → AreAsBefore ps (worked_leaves s run ps)
-  as_before-worked_leaves s run [] = tt
-  as_before-worked_leaves s run (p ∷ []) = (as_before-worked s p run, tt)
-  as_before-worked_leaves s run (p ∷ q ∷ qs) = (as_before-worked s p (part_below q.page.low run), as_before-worked_leaves s (part_from q.page.low run) (q ∷ qs))
+  pub as_before-updated_leaves : (s : Settings) (run : List (List ℕ × Option V)) (ps : List (Placed V)) → AreAsBefore ps (updated_leaves s run ps)
+  as_before-updated_leaves s run [] = tt
+  as_before-updated_leaves s run (p ∷ []) = (as_before-updated s p run, tt)
+  as_before-updated_leaves s run (p ∷ q ∷ qs) = (as_before-updated s p (part_below q.page.low run), as_before-updated_leaves s (part_from q.page.low run) (q ∷ qs))
 
-  pub as_before-worked_parents : (s : Settings) (ps : List (Placed V)) (runs : List (List (List ℕ × Option V))) → AreAsBefore ps (worked_parents s ps runs)
-  as_before-worked_parents s [] runs = tt
-  as_before-worked_parents s (p ∷ ps) [] = (as_before-worked s p [], as_before-worked_parents s ps [])
-  as_before-worked_parents s (p ∷ ps) (run ∷ runs) = (as_before-worked s p run, as_before-worked_parents s ps runs)
+  pub as_before-updated_parents : (s : Settings) (ps : List (Placed V)) (runs : List (List (List ℕ × Option V))) → AreAsBefore ps (updated_parents s ps runs)
+  as_before-updated_parents s [] runs = tt
+  as_before-updated_parents s (p ∷ ps) [] = (as_before-updated s p [], as_before-updated_parents s ps [])
+  as_before-updated_parents s (p ∷ ps) (run ∷ runs) = (as_before-updated s p run, as_before-updated_parents s ps runs)
 
   -- ---- pages of groups that aren't rewritten
 
@@ -87,15 +87,15 @@ module _ {V : Type 0} where
   has_right (x ∷ xs) ys p h = inr (has_right xs ys p h)
 
   -- a page that isn't outdated wasn't replaced, and is one of these
-  abbrev StaysIn : List ℕ → List (Placed V) → Worked V → Type 0
+  abbrev StaysIn : List ℕ → List (Placed V) → Updated V → Type 0
   StaysIn gone news w = is_among w.placed.pid gone ≡ false → (w.replaced ≡ false) × Has news w.placed
 
-  where_by : (test : Worked V → Bool) (w : Worked V) (ws : List (Worked V)) (b : Bool) → test w ≡ b → map (λ w. w.placed.pid) (cond b (w ∷ filter test ws) (filter test ws)) ≡ cond b (w.placed.pid ∷ map (λ w. w.placed.pid) (filter test ws)) (map (λ w. w.placed.pid) (filter test ws))
+  where_by : (test : Updated V → Bool) (w : Updated V) (ws : List (Updated V)) (b : Bool) → test w ≡ b → map (λ w. w.placed.pid) (cond b (w ∷ filter test ws) (filter test ws)) ≡ cond b (w.placed.pid ∷ map (λ w. w.placed.pid) (filter test ws)) (map (λ w. w.placed.pid) (filter test ws))
   where_by test w ws true e = refl
   where_by test w ws false e = refl
 
   -- a test fails at each page whose pid isn't among those where it holds
-  fails : (test : Worked V → Bool) (ws : List (Worked V)) → AllByRecursion (λ w. is_among w.placed.pid (map (λ v. v.placed.pid) (filter test ws)) ≡ false → test w ≡ false) ws
+  fails : (test : Updated V → Bool) (ws : List (Updated V)) → AllByRecursion (λ w. is_among w.placed.pid (map (λ v. v.placed.pid) (filter test ws)) ≡ false → test w ≡ false) ws
   fails test [] = tt
   fails test (w ∷ ws) =
       let rest : List ℕ = map (λ v. v.placed.pid) (filter test ws) in
@@ -105,14 +105,14 @@ module _ {V : Type 0} where
             (λ v f h. f (later_by (test w) v.placed.pid w.placed.pid rest (subst (λ (ns : List ℕ). is_among v.placed.pid ns ≡ false) e h))) ws (fails test ws),
       )
 
-  has_members : (ws : List (Worked V)) → AllByRecursion (λ w. Has (placed_of ws) w.placed) ws
+  has_members : (ws : List (Updated V)) → AllByRecursion (λ w. Has (placed_of ws) w.placed) ws
   has_members [] = tt
   has_members (w ∷ ws) = (inl refl, all_weaker (λ v. Has (placed_of ws) v.placed) (λ v. Has (placed_of (w ∷ ws)) v.placed) (λ v h. inr h) ws (has_members ws))
 
-  stays_by : (b : Bool) (s : Settings) (used : List ℕ) (i : ℕ) (w : Worked V) (ws : List (Worked V)) → is_rewritten (w ∷ ws) ≡ b
+  stays_by : (b : Bool) (s : Settings) (used : List ℕ) (i : ℕ) (w : Updated V) (ws : List (Updated V)) → is_rewritten (w ∷ ws) ≡ b
       → AllByRecursion (StaysIn (map (λ v. v.placed.pid) (filter (λ v. v.replaced || b) (w ∷ ws))) (remade_by b s used i w ws)) (w ∷ ws)
   stays_by true s used i w ws e =
-      let test : Worked V → Bool = λ v. v.replaced || true in
+      let test : Updated V → Bool = λ v. v.replaced || true in
       all_weaker (λ v. is_among v.placed.pid (map (λ u. u.placed.pid) (filter test (w ∷ ws))) ≡ false → test v ≡ false) (StaysIn (map (λ u. u.placed.pid) (filter test (w ∷ ws))) (remade_by true s used i w ws))
       (λ v f h. absurd (right v.replaced (f h))) (w ∷ ws) (fails test (w ∷ ws))
     where
@@ -120,28 +120,28 @@ module _ {V : Type 0} where
       right true h = absurd (cc)
       right false h = absurd (cc)
   stays_by false s used i w ws e =
-      let test : Worked V → Bool = λ v. v.replaced || false in
-      let P : Worked V → Type 0 = λ v. is_among v.placed.pid (map (λ u. u.placed.pid) (filter test (w ∷ ws))) ≡ false → test v ≡ false in
-      let Q : Worked V → Type 0 = λ v. Has (placed_of (w ∷ ws)) v.placed in
+      let test : Updated V → Bool = λ v. v.replaced || false in
+      let P : Updated V → Type 0 = λ v. is_among v.placed.pid (map (λ u. u.placed.pid) (filter test (w ∷ ws))) ≡ false → test v ≡ false in
+      let Q : Updated V → Type 0 = λ v. Has (placed_of (w ∷ ws)) v.placed in
       all_weaker (λ v. P v × Q v) (StaysIn (map (λ u. u.placed.pid) (filter test (w ∷ ws))) (placed_of (w ∷ ws)))
       (λ v f h. ((or_parts v.replaced false (f.0 h)).0, f.1)) (w ∷ ws) ((all_both P Q (w ∷ ws)).1 (fails test (w ∷ ws), has_members (w ∷ ws)))
 
-  stays-remade : (s : Settings) (used : List ℕ) (i : ℕ) (g : List (Worked V)) → AllByRecursion (StaysIn (outdated (record { members = g; pages = remade s used i g })) (remade s used i g)) g
+  stays-remade : (s : Settings) (used : List ℕ) (i : ℕ) (g : List (Updated V)) → AllByRecursion (StaysIn (outdated (record { members = g; pages = remade s used i g })) (remade s used i g)) g
   stays-remade s used i [] = tt
   stays-remade s used i (w ∷ ws) = stays_by (is_rewritten (w ∷ ws)) s used i w ws refl
 
   -- what stays in a part stays in the whole
-  stays_left : (gone more : List ℕ) (news others : List (Placed V)) (ws : List (Worked V)) → AllByRecursion (StaysIn gone news) ws → AllByRecursion (StaysIn (gone ++ more) (news ++ others)) ws
+  stays_left : (gone more : List ℕ) (news others : List (Placed V)) (ws : List (Updated V)) → AllByRecursion (StaysIn gone news) ws → AllByRecursion (StaysIn (gone ++ more) (news ++ others)) ws
   stays_left gone more news others ws a =
       all_weaker (StaysIn gone news) (StaysIn (gone ++ more) (news ++ others))
       (λ w f h. let r = f (among_apart w.placed.pid gone more h).0 in (r.0, has_left news others w.placed r.1)) ws a
 
-  stays_right : (gone more : List ℕ) (news others : List (Placed V)) (ws : List (Worked V)) → AllByRecursion (StaysIn more others) ws → AllByRecursion (StaysIn (gone ++ more) (news ++ others)) ws
+  stays_right : (gone more : List ℕ) (news others : List (Placed V)) (ws : List (Updated V)) → AllByRecursion (StaysIn more others) ws → AllByRecursion (StaysIn (gone ++ more) (news ++ others)) ws
   stays_right gone more news others ws a =
       all_weaker (StaysIn more others) (StaysIn (gone ++ more) (news ++ others))
       (λ w f h. let r = f (among_apart w.placed.pid gone more h).1 in (r.0, has_right news others w.placed r.1)) ws a
 
-  stays-changes : (s : Settings) (used : List ℕ) (i : ℕ) (gs : List (List (Worked V))) → AllByRecursion (StaysIn (flat_map outdated (changes s used i gs)) (new_of (changes s used i gs))) (flat gs)
+  stays-changes : (s : Settings) (used : List ℕ) (i : ℕ) (gs : List (List (Updated V))) → AllByRecursion (StaysIn (flat_map outdated (changes s used i gs)) (new_of (changes s used i gs))) (flat gs)
   stays-changes s used i [] = tt
   stays-changes s used i (g ∷ gs) =
       let here : List (Placed V) = remade s used i g in
@@ -151,13 +151,13 @@ module _ {V : Type 0} where
       (stays_left own (flat_map outdated cs) here (new_of cs) g (stays-remade s used i g))
       (stays_right own (flat_map outdated cs) here (new_of cs) (flat gs) (stays-changes s used (i + length (drop 1 here)) gs))
 
-  stays-family_changes : (s : Settings) (used : List ℕ) (i : ℕ) (fs : List (List (Worked V))) → AllByRecursion (StaysIn (all_outdated (family_changes s used i fs)) (all_new (family_changes s used i fs))) (flat fs)
+  stays-family_changes : (s : Settings) (used : List ℕ) (i : ℕ) (fs : List (List (Updated V))) → AllByRecursion (StaysIn (all_outdated (family_changes s used i fs)) (all_new (family_changes s used i fs))) (flat fs)
   stays-family_changes s used i [] = tt
   stays-family_changes s used i (f ∷ fs) =
       let cs : List (Change V) = changes s used i (groups is_thin f) in
       let later : List (List (Change V)) = family_changes s used (i + length (fresh_of cs)) fs in
       let own : AllByRecursion (StaysIn (flat_map outdated cs) (new_of cs)) f =
-      subst (λ (ws : List (Worked V)). AllByRecursion (StaysIn (flat_map outdated cs) (new_of cs)) ws) (groups-joined is_thin f) (stays-changes s used i (groups is_thin f)) in
+      subst (λ (ws : List (Updated V)). AllByRecursion (StaysIn (flat_map outdated cs) (new_of cs)) ws) (groups-joined is_thin f) (stays-changes s used i (groups is_thin f)) in
       all-append (StaysIn (flat_map outdated cs ++ all_outdated later) (new_of cs ++ all_new later)) f (flat fs)
       (stays_left (flat_map outdated cs) (all_outdated later) (new_of cs) (all_new later) f own)
       (stays_right (flat_map outdated cs) (all_outdated later) (new_of cs) (all_new later) (flat fs) (stays-family_changes s used (i + length (fresh_of cs)) fs))
@@ -177,7 +177,7 @@ module _ {V : Type 0} where
   found_as_before (x ∷ xs) p q a (inl e) = inl (subst (λ (y : Placed V). IsAsBefore p y) (sym e) a)
   found_as_before (x ∷ xs) p q a (inr h) = inr (found_as_before xs p q a h)
 
-  same_pid_as : (ps : List (Placed V)) (ws : List (Worked V)) → names (placed_of ws) ≡ names ps → AreAsBefore ps ws → (gone : List ℕ) (news : List (Placed V)) → AllByRecursion (StaysIn gone news) ws → AllByRecursion (StandsIn gone news) ps
+  same_pid_as : (ps : List (Placed V)) (ws : List (Updated V)) → names (placed_of ws) ≡ names ps → AreAsBefore ps ws → (gone : List ℕ) (news : List (Placed V)) → AllByRecursion (StaysIn gone news) ws → AllByRecursion (StandsIn gone news) ps
   same_pid_as [] [] e a gone news h = tt
   same_pid_as [] (w ∷ ws) e a gone news h = tt
   same_pid_as (p ∷ ps) [] e a gone news h = absurd a
@@ -202,22 +202,22 @@ stand_more gone more (l ∷ ls) (new ∷ news) h =
     (all_weaker (StandsIn more new) (StandsIn (gone ++ more) new) (λ p f n. f (among_apart p.pid gone more n).1) l h.0, stand_more gone more ls news h.1)
 
 -- the pages of a climb's levels are unchanged except for newer runs, unless their pids are outdated
-pub stand-climb : {V : Type 0} (s : Settings) (used : List ℕ) (i : ℕ) (ws : List (Worked V)) (olds : List (Placed V)) (ups : List (List (Placed ℕ))) → names (placed_of ws) ≡ names olds → Stacked olds ups → AreAsBefore olds ws
+pub stand-climb : {V : Type 0} (s : Settings) (used : List ℕ) (i : ℕ) (ws : List (Updated V)) (olds : List (Placed V)) (ups : List (List (Placed ℕ))) → names (placed_of ws) ≡ names olds → Stacked olds ups → AreAsBefore olds ws
     → AllByRecursion (StandsIn (climb s used i ws ups).outdated (climb s used i ws ups).tower.level) olds × AllStandIn (climb s used i ws ups).outdated ups (climb s used i ws ups).tower.above
 stand-climb {V} s used i ws olds [] e o a =
     let cs : List (Change V) = changes s used i (ws ∷ []) in
-    let whole : AllByRecursion (StaysIn (flat_map outdated cs) (new_of cs)) ws = subst (λ (vs : List (Worked V)). AllByRecursion (StaysIn (flat_map outdated cs) (new_of cs)) vs) (append-nil ws) (stays-changes s used i (ws ∷ [])) in
+    let whole : AllByRecursion (StaysIn (flat_map outdated cs) (new_of cs)) ws = subst (λ (vs : List (Updated V)). AllByRecursion (StaysIn (flat_map outdated cs) (new_of cs)) vs) (append-nil ws) (stays-changes s used i (ws ∷ [])) in
     let only : AllByRecursion (StaysIn (all_outdated (cs ∷ [])) (all_new (cs ∷ []))) ws = stays_left (flat_map outdated cs) [] (new_of cs) [] ws whole in
     (same_pid_as olds ws e a (all_outdated (cs ∷ [])) (all_new (cs ∷ [])) only, tt)
 stand-climb {V} s used i ws olds (ps ∷ ups) e o a =
     let linked : joined ps ≡ names (placed_of ws) = o.0.linked ∙ sym e in
     let css : List (List (Change V)) = family_changes s used i (families ps ws) in
-    let vs : List (Worked ℕ) = worked_parents s ps (map terms css) in
+    let vs : List (Updated ℕ) = updated_parents s ps (map terms css) in
     let up : Climbed ℕ = climb s used (i + length (all_fresh css)) vs ups in
-    let own : AllByRecursion (StaysIn (all_outdated css) (all_new css)) ws = subst (λ (xs : List (Worked V)). AllByRecursion (StaysIn (all_outdated css) (all_new css)) xs) (families-joined ps ws linked) (stays-family_changes s used i (families ps ws)) in
+    let own : AllByRecursion (StaysIn (all_outdated css) (all_new css)) ws = subst (λ (xs : List (Updated V)). AllByRecursion (StaysIn (all_outdated css) (all_new css)) xs) (families-joined ps ws linked) (stays-family_changes s used i (families ps ws)) in
     let all : AllByRecursion (StaysIn (all_outdated css ++ up.outdated) (all_new css)) ws =
     all_weaker (StaysIn (all_outdated css) (all_new css)) (StaysIn (all_outdated css ++ up.outdated) (all_new css)) (λ w f h. f (among_apart w.placed.pid (all_outdated css) up.outdated h).0) ws own in
-    let upper = stand-climb s used (i + length (all_fresh css)) vs ps ups (names-worked_parents s ps (map terms css)) o.1 (as_before-worked_parents s ps (map terms css)) in (
+    let upper = stand-climb s used (i + length (all_fresh css)) vs ps ups (names-updated_parents s ps (map terms css)) o.1 (as_before-updated_parents s ps (map terms css)) in (
       same_pid_as olds ws e a (all_outdated css ++ up.outdated) (all_new css) all,
       (
         all_weaker (StandsIn up.outdated up.tower.level) (StandsIn (all_outdated css ++ up.outdated) up.tower.level) (λ p f n. f (among_apart p.pid (all_outdated css) up.outdated n).1) ps upper.0,

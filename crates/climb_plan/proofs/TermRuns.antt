@@ -9,15 +9,15 @@ use Rattle.mapping.specs.Levels.{Placed, entries, pids}
 use Rattle.mapping.specs.FreshPids.{is_among}
 use Rattle.mapping.specs.Table.{Mapping, place_of}
 use Rattle.mapping.specs.Proper.{Distinct}
-use Rattle.page_runs.specs.Worked as runs
-use Rattle.page_runs.specs.Worked.{Worked, is_thin}
+use Rattle.page_runs.specs.Updated as runs
+use Rattle.page_runs.specs.Updated.{Updated, is_thin}
 use Rattle.split_plan.specs.Groups.{groups}
-use Rattle.split_plan.specs.WorkedLevel.{worked_parents}
+use Rattle.split_plan.specs.UpdatedLevel.{updated_parents}
 use Rattle.split_plan.specs.Change.{Change, changes, family_changes, fresh_of}
 use Rattle.split_plan.specs.Terms.{terms}
 use Rattle.climb_plan.specs.Climb.{families}
 use Rattle.climb_plan.specs.Changing.{AreSeen, page_seen, Changing, groups_to_rewrite, with_changing, changing_families, parents_of, changing_changes}
-use Rattle.climb_plan.specs.Changing.AreSeen.{worked, at_home}
+use Rattle.climb_plan.specs.Changing.AreSeen.{updated, at_home}
 use Rattle.climb_plan.proofs.ParentRuns.AreRunsOf.{termed, untermed}
 use Rattle.climb_plan.proofs.ChangingGroups.{AreAlike, alike_rewritten, alike_terms}
 use Rattle.climb_plan.proofs.ParentRuns.{AreRunsOf}
@@ -30,7 +30,7 @@ RunsOf V = List (List (List ℕ × Option V))
 
 module _ {V : Type 0} where
   -- one more parent, whose family has these groups that are rewritten
-  termed_step : (gs : List (List (Worked V))) (s : Settings) (used : List ℕ) (i : ℕ) (p : Placed ℕ) (ps : List (Placed ℕ)) (cs : List (Change V)) (later : ℕ → RunsOf ℕ) (chs : List (Changing V)) → AreAlike cs (changes s used i gs)
+  termed_step : (gs : List (List (Updated V))) (s : Settings) (used : List ℕ) (i : ℕ) (p : Placed ℕ) (ps : List (Placed ℕ)) (cs : List (Change V)) (later : ℕ → RunsOf ℕ) (chs : List (Changing V)) → AreAlike cs (changes s used i gs)
       → ((j : ℕ) → AreRunsOf ps (later j) (parents_of chs) (map terms (changing_changes s used j chs)))
       → (let all : List (Changing V) = with_changing gs (record { parent = p; groups = gs }) chs in AreRunsOf (p ∷ ps) (terms cs ∷ later (i + length (fresh_of cs))) (parents_of all) (map terms (changing_changes s used i all)))
   termed_step [] s used i p ps cs later chs a ih =
@@ -43,12 +43,12 @@ module _ {V : Type 0} where
       rw (same_terms, a.fresh) (termed p (terms (changes s used i (g ∷ gs))) (ih (i + length (fresh_of (changes s used i (g ∷ gs))))))
 
   -- the terms of all families are empty, except for those that change
-  pub all_terms_given : (s : Settings) (used : List ℕ) (i : ℕ) (ps : List (Placed ℕ)) (ws : List (Worked V))
+  pub all_terms_given : (s : Settings) (used : List ℕ) (i : ℕ) (ps : List (Placed ℕ)) (ws : List (Updated V))
       → AreRunsOf ps (map terms (family_changes s used i (families ps ws))) (parents_of (changing_families ps ws)) (map terms (changing_changes s used i (changing_families ps ws)))
   all_terms_given s used i [] ws = AreRunsOf.none
   all_terms_given s used i (p ∷ ps) ws =
-      let f : List (Worked V) = take (length (entries p)) ws in
-      let more : List (Worked V) = drop (length (entries p)) ws in
+      let f : List (Updated V) = take (length (entries p)) ws in
+      let more : List (Updated V) = drop (length (entries p)) ws in
       termed_step (groups_to_rewrite f) s used i p ps (changes s used i (groups is_thin f)) (λ j. map terms (family_changes s used j (families ps more))) (changing_families ps more) (alike_rewritten s used i (groups is_thin f)) (λ j. all_terms_given s used j ps more)
 
 -- ---- pages after their runs
@@ -89,9 +89,9 @@ module _ {V : Type 0} where
 
   -- if the pages that have a run are checked out and the others are in the table, those with a run are the pages seen
   pub seen_after_runs : {ps qs : List (Placed V)} {all rs : List (List (List ℕ × Option V))} (s : Settings) (of : Page V → PageOfKind) (t : Mapping PageOfKind) → AreRunsOf ps all qs rs → Distinct (pids ps) → AreHomeBut of t qs ps → AllByRecursion (λ q. place_of t q.pid ≡ Some None) qs
-      → AreSeen of t (map (page_seen of) (worked_parents s qs rs)) (worked_parents s ps all)
+      → AreSeen of t (map (page_seen of) (updated_parents s qs rs)) (updated_parents s ps all)
   seen_after_runs s of t (AreRunsOf.none) d h a = AreSeen.none
   seen_after_runs {ps} s of t (termed {ps = more} {qs = qs} p run r) d h a =
-      worked (runs.worked s p run) a.0 (seen_after_runs s of t r d.1 (without_first of t p qs more (others p.pid more d.0) h.1) a.1)
+      updated (runs.updated s p run) a.0 (seen_after_runs s of t r d.1 (without_first of t p qs more (others p.pid more d.0) h.1) a.1)
   seen_after_runs {ps} {qs} s of t (untermed {ps = more} p r) d h a =
       at_home p (h.0 (not_among p.pid qs (all_termed (λ q. q.pid ≢ p.pid) r (others p.pid more d.0)))) (seen_after_runs s of t r d.1 h.1 a)

@@ -14,11 +14,11 @@ use Rattle.mapping.specs.Table.{Mapping, pids_in_use, place_of, with_rooms, fres
 use Rattle.mapping.specs.TreeInMemory.{TreeInMemory}
 use Rattle.mapping.proofs.LevelLemmas.{pids-append}
 use Rattle.mapping.proofs.PidLemmas.{all_among}
-use Rattle.page_runs.specs.TermWork.{IndexWorked}
-use Rattle.page_runs.specs.Worked.{Worked}
+use Rattle.page_runs.specs.TermWork.{IndexUpdate}
+use Rattle.page_runs.specs.Updated.{Updated}
 use Rattle.split_plan.proofs.PidLemmas.{distinct_renewed}
 use Rattle.split_plan.specs.Change.{Change, changes, fresh_of}
-use Rattle.split_plan.specs.WorkedLevel.{placed_of}
+use Rattle.split_plan.specs.UpdatedLevel.{placed_of}
 use Rattle.climb_plan.specs.Changing.{SeenPage, AreHome, Changing, changing_families, changing_groups, parents_of}
 use Rattle.climb_plan.specs.Climb.{LevelPlan}
 use Rattle.climb_plan.specs.Installing.{AreAway, all_put, all_taken}
@@ -36,13 +36,13 @@ use Rattle.climb_plan.proofs.TermRuns.{all_termed, all_terms_given}
 use Rattle.climb_plan.proofs.LevelParts.{level_of}
 
 -- what is held of parents, and their original pages
-abbrev pub held_pages : List IndexWorked → List (ℕ × PageOfKind)
+abbrev pub held_pages : List IndexUpdate → List (ℕ × PageOfKind)
 held_pages ds = map {B = ℕ × PageOfKind} (λ d. (d.held.pid, d.held.page)) ds
 
 abbrev pub index_pages : List (Placed ℕ) → List (ℕ × PageOfKind)
 index_pages qs = map {B = ℕ × PageOfKind} (λ q. (q.pid, Index q.page)) qs
 
-pids_held : (ds : List IndexWorked) → map (λ d. d.held.pid) ds ≡ keys_of (held_pages ds)
+pids_held : (ds : List IndexUpdate) → map (λ d. d.held.pid) ds ≡ keys_of (held_pages ds)
 pids_held [] = refl
 pids_held (d ∷ ds) = ap (λ (ns : List ℕ). d.held.pid ∷ ns) (pids_held ds)
 
@@ -55,7 +55,7 @@ home_pairs : (t : Mapping PageOfKind) (qs : List (Placed ℕ)) → AreHome Index
 home_pairs t [] h = tt
 home_pairs t (q ∷ qs) h = (h.0, home_pairs t qs h.1)
 
-module _ {V : Type 0} (s : Settings) (fan : 1 < s.fan) (of : Page V → PageOfKind) (t ready : TreeInMemory) (xs : List SeenPage) (ws : List (Worked V)) (ps : List (Placed ℕ)) (ups : List (List (Placed ℕ))) (used : List ℕ) (i : ℕ) (groups : List Remade) (parents : List IndexWorked)
+module _ {V : Type 0} (s : Settings) (fan : 1 < s.fan) (of : Page V → PageOfKind) (t ready : TreeInMemory) (xs : List SeenPage) (ws : List (Updated V)) (ps : List (Placed ℕ)) (ups : List (List (Placed ℕ))) (used : List ℕ) (i : ℕ) (groups : List Remade) (parents : List IndexUpdate)
     (h : IsLevel of t xs (level_of ws (ps ∷ ups) used i)) (c : IsChanged s of t ready (level_of ws ups used i) ps groups parents) where
   abbrev taken_here : List ℕ
   taken_here = parent_pids (changing_families ps ws)
@@ -127,7 +127,7 @@ module _ {V : Type 0} (s : Settings) (fan : 1 < s.fan) (of : Page V → PageOfKi
 -- ---- as code has it
 
 module _ {V : Type 0} {of : Page V → PageOfKind} {s : Settings} {w : Working} {xs : List SeenPage} {groups : List Remade} (k : IsWorkedOn of s w xs groups)
-    {now : TreeInMemory} {held : List IndexWorked} (stays : now ≡ w.ready) (same : held ≡ w.parents) where
+    {now : TreeInMemory} {held : List IndexUpdate} (stays : now ≡ w.ready) (same : held ≡ w.parents) where
   abbrev l : SomeChildren of w.before xs (w.depth - 1)
   l = children_here k
 
@@ -139,27 +139,27 @@ module _ {V : Type 0} {of : Page V → PageOfKind} {s : Settings} {w : Working} 
 
   pub refused_away : AreAway now.table (map (λ d. d.held.pid) held)
   refused_away =
-      subst (λ (u : TreeInMemory). AreAway u.table (map (λ d. d.held.pid) held)) (sym stays) (subst (λ (ds : List IndexWorked). AreAway w.ready.table (map (λ d. d.held.pid) ds)) (sym same) (parents_are_away s k.fan of w.before w.ready xs p.worked l.1 p.above p.used p.from groups w.parents l.2 changed))
+      subst (λ (u : TreeInMemory). AreAway u.table (map (λ d. d.held.pid) held)) (sym stays) (subst (λ (ds : List IndexUpdate). AreAway w.ready.table (map (λ d. d.held.pid) ds)) (sym same) (parents_are_away s k.fan of w.before w.ready xs p.updated l.1 p.above p.used p.from groups w.parents l.2 changed))
 
   module _ {back : TreeInMemory} (put : back ≡ record now { table = all_put now.table (held_pages held) }) {all : List Remade} (handed : all ≡ groups) where
     put_back : back ≡ record w.ready { table = all_put w.ready.table (held_pages w.parents) }
     put_back =
-        let make : TreeInMemory → List IndexWorked → TreeInMemory = λ u ds. record u { table = all_put u.table (held_pages ds) } in
-        put ∙ ap (λ (u : TreeInMemory). make u held) stays ∙ ap (λ (ds : List IndexWorked). make w.ready ds) same
+        let make : TreeInMemory → List IndexUpdate → TreeInMemory = λ u ds. record u { table = all_put u.table (held_pages ds) } in
+        put ∙ ap (λ (u : TreeInMemory). make u held) stays ∙ ap (λ (ds : List IndexUpdate). make w.ready ds) same
 
     pub refused_fresh : AreAway back.table (flat_map (λ r. r.fresh) all)
     refused_fresh =
-        subst (λ (rs : List Remade). AreAway back.table (flat_map (λ r. r.fresh) rs)) (sym handed) (fresh_are_away s k.fan of w.before w.ready xs p.worked l.1 p.above p.used p.from groups w.parents l.2 changed back put_back)
+        subst (λ (rs : List Remade). AreAway back.table (flat_map (λ r. r.fresh) rs)) (sym handed) (fresh_are_away s k.fan of w.before w.ready xs p.updated l.1 p.above p.used p.from groups w.parents l.2 changed back put_back)
 
     pub refused_back : {after : TreeInMemory} → after ≡ record back { table = freed_all back.table (flat_map (λ r. r.fresh) all) }
         → ((m : Mapping PageOfKind) (n : ℕ) → AreRisingPids (pids_in_use m) → IsOldWithoutPlace m → freed_all (with_rooms m (fresh_pids (pids_in_use m) n)) (fresh_pids (pids_in_use m) n) ≡ m) → after ≡ w.before
     refused_back {after = after} r law =
         let t : TreeInMemory = w.before in
-        let n : ℕ = length (fresh_of (changes s p.used p.from (changing_groups (changing_families l.1 p.worked)))) in
+        let n : ℕ = length (fresh_of (changes s p.used p.from (changing_groups (changing_families l.1 p.updated)))) in
         let ns : List ℕ = fresh_pids (pids_in_use t.table) n in
         let make : TreeInMemory → Mapping PageOfKind → TreeInMemory = λ u m. record u { table = m } in
         let roomy : back ≡ record t { table = with_rooms t.table ns } = put_back
-        ∙ ap (λ (m : Mapping PageOfKind). make w.ready m) (parents_are_back s k.fan of t w.ready xs p.worked l.1 p.above p.used p.from groups w.parents l.2 changed)
+        ∙ ap (λ (m : Mapping PageOfKind). make w.ready m) (parents_are_back s k.fan of t w.ready xs p.updated l.1 p.above p.used p.from groups w.parents l.2 changed)
         ∙ ap (λ (u : TreeInMemory). make u (with_rooms t.table ns)) changed.tree in
-        let drawn : flat_map (λ r. r.fresh) all ≡ ns = ap (λ (rs : List Remade). flat_map (λ r. r.fresh) rs) handed ∙ fresh_are_drawn s k.fan of t w.ready xs p.worked l.1 p.above p.used p.from groups w.parents l.2 changed in
+        let drawn : flat_map (λ r. r.fresh) all ≡ ns = ap (λ (rs : List Remade). flat_map (λ r. r.fresh) rs) handed ∙ fresh_are_drawn s k.fan of t w.ready xs p.updated l.1 p.above p.used p.from groups w.parents l.2 changed in
         given_back t back after (flat_map (λ r. r.fresh) all) ns roomy r drawn (law t.table n l.2.rising l.2.logs)

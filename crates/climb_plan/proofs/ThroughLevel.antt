@@ -18,11 +18,11 @@ use Rattle.mapping.specs.Table as table
 use Rattle.mapping.specs.Tree.{Logged}
 use Rattle.mapping.specs.TreeInMemory.{TreeInMemory}
 use Rattle.mapping.proofs.PidLemmas.{all_among, among_left}
-use Rattle.page_runs.specs.Worked.{Worked}
+use Rattle.page_runs.specs.Updated.{Updated}
 use Rattle.split_plan.specs.Change.{Change, is_rewritten, changes, family_changes, fresh_of, all_new, all_fresh, all_outdated}
-use Rattle.split_plan.specs.WorkedLevel.{placed_of}
+use Rattle.split_plan.specs.UpdatedLevel.{placed_of}
 use Rattle.climb_plan.specs.Changing.{SeenPage, page_seen, AreSeen, AreHome, Changing, changing_families, changing_groups, parents_of}
-use Rattle.climb_plan.specs.Changing.AreSeen.{worked, at_home}
+use Rattle.climb_plan.specs.Changing.AreSeen.{updated, at_home}
 use Rattle.climb_plan.specs.Climb.{climb, families}
 use Rattle.climb_plan.specs.HasClimbed.{HasClimbed}
 use Rattle.climb_plan.specs.Installing.{AreAway, come_home, all_come_home, all_installed, CanInstallAll}
@@ -31,7 +31,7 @@ use Rattle.climb_plan.proofs.BridgeDrawn.{drawn_places}
 use Rattle.climb_plan.proofs.BridgeTables.{AreDrawn, taken_others, taken_logged, drawn_others}
 use Rattle.climb_plan.proofs.ChangedRooms.{shifted}
 use Rattle.climb_plan.proofs.ChangingGroups.{all_groups, groups-changing_families, fresh_on_level}
-use Rattle.climb_plan.proofs.ChangingOutdated.{worked_pids-placed, among-joined, all_groups-joined, outdated-level, outdate-joined, outdate-same}
+use Rattle.climb_plan.proofs.ChangingOutdated.{updated_pids-placed, among-joined, all_groups-joined, outdated-level, outdate-joined, outdate-same}
 use Rattle.climb_plan.proofs.ChangingSeen.{seen_replaced}
 use Rattle.climb_plan.proofs.Climbing.{IsMadeReady, has_level_from}
 use Rattle.climb_plan.proofs.ClimbingLevel.{plan_above, climbed_above, level_untouched, fresh_untouched, level-climbed}
@@ -42,7 +42,7 @@ use Rattle.climb_plan.proofs.Installing.{home_apart, distinct_first}
 use Rattle.climb_plan.proofs.InstallingLemmas.{not_among, others-all_come_home, home-all_come_home, rising-all_come_home, logged-all_come_home}
 use Rattle.climb_plan.proofs.ThroughGroups.{fresh_numbers, groups_can_be_installed, groups_installed, groups_rising, groups_logged}
 use Rattle.climb_plan.proofs.TermRuns.{all_termed, all_terms_given}
-use Rattle.climb_plan.proofs.Installed.{IsInstalled, worked_pids, replaced_among}
+use Rattle.climb_plan.proofs.Installed.{IsInstalled, updated_pids, replaced_among}
 use Rattle.climb_plan.proofs.LevelParts.{level_of}
 
 -- ---- the pages of a level that were seen
@@ -53,41 +53,41 @@ seen_pids xs = map (λ x. x.pid) xs
 
 module _ {V : Type 0} (of : Page V → PageOfKind) (t : Mapping PageOfKind) where
   -- what holds of all pids of a level holds of those
-  seen_all : (P : ℕ → Type 0) {xs : List SeenPage} {ws : List (Worked V)} → AreSeen of t xs ws → AllByRecursion P (worked_pids ws) → AllByRecursion P (seen_pids xs)
+  seen_all : (P : ℕ → Type 0) {xs : List SeenPage} {ws : List (Updated V)} → AreSeen of t xs ws → AllByRecursion P (updated_pids ws) → AllByRecursion P (seen_pids xs)
   seen_all P (AreSeen.none) h = tt
-  seen_all P (worked w e r) h = (h.0, seen_all P r h.1)
+  seen_all P (updated w e r) h = (h.0, seen_all P r h.1)
   seen_all P (at_home p e r) h = seen_all P r h.1
 
-  pub seen_distinct : {xs : List SeenPage} {ws : List (Worked V)} → AreSeen of t xs ws → Distinct (worked_pids ws) → Distinct (seen_pids xs)
+  pub seen_distinct : {xs : List SeenPage} {ws : List (Updated V)} → AreSeen of t xs ws → Distinct (updated_pids ws) → Distinct (seen_pids xs)
   seen_distinct (AreSeen.none) d = tt
-  seen_distinct (worked w e r) d = (seen_all (λ k. k ≢ w.placed.pid) r d.0, seen_distinct r d.1)
+  seen_distinct (updated w e r) d = (seen_all (λ k. k ≢ w.placed.pid) r d.0, seen_distinct r d.1)
   seen_distinct (at_home p e r) d = seen_distinct r d.1
 
   -- they are checked out as long as their places stay
-  pub seen_away : (u : Mapping PageOfKind) {xs : List SeenPage} {ws : List (Worked V)} → AreSeen of t xs ws → AllByRecursion (λ k. place_of u k ≡ place_of t k) (worked_pids ws) → AllByRecursion (λ k. place_of u k ≡ Some None) (seen_pids xs)
+  pub seen_away : (u : Mapping PageOfKind) {xs : List SeenPage} {ws : List (Updated V)} → AreSeen of t xs ws → AllByRecursion (λ k. place_of u k ≡ place_of t k) (updated_pids ws) → AllByRecursion (λ k. place_of u k ≡ Some None) (seen_pids xs)
   seen_away u (AreSeen.none) h = tt
-  seen_away u (worked w e r) h = (h.0 ∙ e, seen_away u r h.1)
+  seen_away u (updated w e r) h = (h.0 ∙ e, seen_away u r h.1)
   seen_away u (at_home p e r) h = seen_away u r h.1
 
   -- a pid that isn't the level's isn't one of theirs
-  pub not_seen : (n : ℕ) {xs : List SeenPage} {ws : List (Worked V)} → AreSeen of t xs ws → is_among n (worked_pids ws) ≡ false → is_among n (seen_pids xs) ≡ false
+  pub not_seen : (n : ℕ) {xs : List SeenPage} {ws : List (Updated V)} → AreSeen of t xs ws → is_among n (updated_pids ws) ≡ false → is_among n (seen_pids xs) ≡ false
   not_seen n (AreSeen.none) h = refl
-  not_seen n (worked {xs = xs} {ws = ws} w e r) h =
-      let parts = or_parts (nat_eq n w.placed.pid) (is_among n (worked_pids ws)) h in
+  not_seen n (updated {xs = xs} {ws = ws} w e r) h =
+      let parts = or_parts (nat_eq n w.placed.pid) (is_among n (updated_pids ws)) h in
       or_from (nat_eq n w.placed.pid) (is_among n (seen_pids xs)) parts.0 (not_seen n r parts.1)
-  not_seen n (at_home {ws = ws} p e r) h = not_seen n r (or_parts (nat_eq n p.pid) (is_among n (worked_pids ws)) h).1
+  not_seen n (at_home {ws = ws} p e r) h = not_seen n r (or_parts (nat_eq n p.pid) (is_among n (updated_pids ws)) h).1
 
   stay_put : (v : Mapping PageOfKind) (x : SeenPage) (ns : List ℕ) → AllByRecursion (λ k. k ≢ x.pid) ns → AllByRecursion (λ k. place_of v k ≡ place_of t k) ns → AllByRecursion (λ k. place_of (come_home v x) k ≡ place_of t k) ns
   stay_put v x [] d h = tt
   stay_put v x (n ∷ ns) d h = (home_apart v x n d.0 ∙ h.0, stay_put v x ns d.1 h.1)
 
   -- after they are put back, all pages of the level are in the table
-  pub home_back : (v : Mapping PageOfKind) {xs : List SeenPage} {ws : List (Worked V)} → AreSeen of t xs ws → AllByRecursion (λ k. place_of v k ≡ place_of t k) (worked_pids ws) → Distinct (worked_pids ws) → AreHome of (all_come_home v xs) (placed_of ws)
+  pub home_back : (v : Mapping PageOfKind) {xs : List SeenPage} {ws : List (Updated V)} → AreSeen of t xs ws → AllByRecursion (λ k. place_of v k ≡ place_of t k) (updated_pids ws) → Distinct (updated_pids ws) → AreHome of (all_come_home v xs) (placed_of ws)
   home_back v (AreSeen.none) h d = tt
-  home_back v (worked {xs = xs} {ws = ws} w e r) h d =
+  home_back v (updated {xs = xs} {ws = ws} w e r) h d =
       let x : SeenPage = page_seen of w in
       let own = home-all_come_home v (x ∷ xs) (seen_all (λ k. k ≢ w.placed.pid) r d.0, seen_distinct r d.1) in
-      (own.0, home_back (come_home v x) r (stay_put v x (worked_pids ws) d.0 h.1) d.1)
+      (own.0, home_back (come_home v x) r (stay_put v x (updated_pids ws) d.0 h.1) d.1)
   home_back v (at_home {xs = xs} p e r) h d =
       (others-all_come_home p.pid v xs (not_among p.pid (seen_pids xs) (seen_all (λ k. k ≢ p.pid) r d.0)) ∙ h.0 ∙ e, home_back v r h.1 d.1)
 
@@ -95,7 +95,7 @@ module _ {V : Type 0} (of : Page V → PageOfKind) (t : Mapping PageOfKind) wher
   some_home : (p : PageOfKind) (o : Option (Option PageOfKind)) → o ≡ Some (Some p) → IsSome (table.at_home o)
   some_home p o e = subst (λ (x : Option (Option PageOfKind)). IsSome (table.at_home x)) (sym e) refl
 
-  pub pages_home : (ws : List (Worked V)) → AreHome of t (placed_of ws) → AllByRecursion (λ k. IsSome (page_of t k)) (worked_pids ws)
+  pub pages_home : (ws : List (Updated V)) → AreHome of t (placed_of ws) → AllByRecursion (λ k. IsSome (page_of t k)) (updated_pids ws)
   pages_home [] h = tt
   pages_home (w ∷ ws) h = (some_home (of w.placed.page) (place_of t w.placed.pid) h.0, pages_home ws h.1)
 
@@ -121,8 +121,8 @@ module _ {V : Type 0} where
 
 -- ---- a level under parents
 
-module _ {V : Type 0} (s : Settings) (of : Page V → PageOfKind) (t : TreeInMemory) (xs : List SeenPage) (ws : List (Worked V)) (ps : List (Placed ℕ)) (ups : List (List (Placed ℕ))) (used : List ℕ) (i : ℕ) (h : IsLevel of t xs (level_of ws (ps ∷ ups) used i)) where
-  abbrev groups_here : List (List (Worked V))
+module _ {V : Type 0} (s : Settings) (of : Page V → PageOfKind) (t : TreeInMemory) (xs : List SeenPage) (ws : List (Updated V)) (ps : List (Placed ℕ)) (ups : List (List (Placed ℕ))) (used : List ℕ) (i : ℕ) (h : IsLevel of t xs (level_of ws (ps ∷ ups) used i)) where
+  abbrev groups_here : List (List (Updated V))
   groups_here = changing_groups (changing_families ps ws)
 
   abbrev changes_here : List (Change V)
@@ -150,14 +150,14 @@ module _ {V : Type 0} (s : Settings) (of : Page V → PageOfKind) (t : TreeInMem
   pub joined_here : flat (families ps ws) ≡ ws
   joined_here = families-joined ps ws h.stacked.0.linked
 
-  level_never : AllByRecursion (IsNeverUnused used) (worked_pids ws)
-  level_never = subst (λ (ns : List ℕ). AllByRecursion (IsNeverUnused used) ns) (sym (worked_pids-placed ws)) (all_apart (IsNeverUnused used) (pids (placed_of ws)) (all_pids ps ups) h.old).0
+  level_never : AllByRecursion (IsNeverUnused used) (updated_pids ws)
+  level_never = subst (λ (ns : List ℕ). AllByRecursion (IsNeverUnused used) ns) (sym (updated_pids-placed ws)) (all_apart (IsNeverUnused used) (pids (placed_of ws)) (all_pids ps ups) h.old).0
 
   parents_never : AllByRecursion (IsNeverUnused used) (pids ps)
   parents_never = (all_apart (IsNeverUnused used) (pids ps) (flat_map pids ups) (all_apart (IsNeverUnused used) (pids (placed_of ws)) (all_pids ps ups) h.old).1).0
 
-  level_distinct : Distinct (worked_pids ws)
-  level_distinct = subst (λ (ns : List ℕ). Distinct ns) (sym (worked_pids-placed ws)) (distinct_first (pids (placed_of ws)) (all_pids ps ups) h.distinct)
+  level_distinct : Distinct (updated_pids ws)
+  level_distinct = subst (λ (ns : List ℕ). Distinct ns) (sym (updated_pids-placed ws)) (distinct_first (pids (placed_of ws)) (all_pids ps ups) h.distinct)
 
   -- ---- which pids are which
 
@@ -169,9 +169,9 @@ module _ {V : Type 0} (s : Settings) (of : Page V → PageOfKind) (t : TreeInMem
   not_taken n e =
       false_from_ne_true (is_among n taken_here) (λ a. let b : is_among n (pids ps) ≡ true = at_among (λ k. is_among k (pids ps) ≡ true) n taken_here taken_are_parents a in absurd (cc))
 
-  not_parent : (n : ℕ) → is_among n (worked_pids ws) ≡ true → is_among n (pids ps) ≡ false
+  not_parent : (n : ℕ) → is_among n (updated_pids ws) ≡ true → is_among n (pids ps) ≡ false
   not_parent n e =
-      let own : is_among n (pids (placed_of ws)) ≡ true = ap (λ (ns : List ℕ). is_among n ns) (sym (worked_pids-placed ws)) ∙ e in
+      let own : is_among n (pids (placed_of ws)) ≡ true = ap (λ (ns : List ℕ). is_among n ns) (sym (updated_pids-placed ws)) ∙ e in
       let apart : is_among n (all_pids ps ups) ≡ false = (distinct_apart (pids (placed_of ws)) (all_pids ps ups) h.distinct).0 n own in
       false_from_ne_true (is_among n (pids ps)) (λ a. let b : is_among n (all_pids ps ups) ≡ true = among_left n (pids ps) (flat_map pids ups) a in absurd (cc))
 
@@ -193,9 +193,9 @@ module _ {V : Type 0} (s : Settings) (of : Page V → PageOfKind) (t : TreeInMem
     height = refl;
   }
 
-  stays_ready : (n : ℕ) → is_among n (worked_pids ws) ≡ true → place_of ready_here.table n ≡ place_of t.table n
+  stays_ready : (n : ℕ) → is_among n (updated_pids ws) ≡ true → place_of ready_here.table n ≡ place_of t.table n
   stays_ready n e =
-      taken_others rooms_here taken_here n (not_taken n (not_parent n e)) ∙ drawn_others t.table rooms_here count_here used i n drawn_here h.drawn (at_among (IsNeverUnused used) n (worked_pids ws) level_never e)
+      taken_others rooms_here taken_here n (not_taken n (not_parent n e)) ∙ drawn_others t.table rooms_here count_here used i n drawn_here h.drawn (at_among (IsNeverUnused used) n (updated_pids ws) level_never e)
 
   fresh_ready : (n : ℕ) → is_among n (pids (fresh_of changes_here)) ≡ true → place_of ready_here.table n ≡ Some None
   fresh_ready n e =
@@ -205,11 +205,11 @@ module _ {V : Type 0} (s : Settings) (of : Page V → PageOfKind) (t : TreeInMem
   -- ---- after the levels above have climbed
 
   module _ (above : TreeInMemory) (up : HasClimbed Index ready_here above (plan_above s used i ps ws ups) (climbed_above s used i ps ws ups)) where
-    places_stay : AllByRecursion (λ k. place_of above.table k ≡ place_of t.table k) (worked_pids ws)
+    places_stay : AllByRecursion (λ k. place_of above.table k ≡ place_of t.table k) (updated_pids ws)
     places_stay =
-        all_each (λ k. is_among k (worked_pids ws) ≡ true) (λ k. place_of above.table k ≡ place_of t.table k) (worked_pids ws)
+        all_each (λ k. is_among k (updated_pids ws) ≡ true) (λ k. place_of above.table k ≡ place_of t.table k) (updated_pids ws)
         (λ k e. level_untouched s used i ps ws ups joined_here h.stacked.1 h.old h.distinct ready_here above up k e ∙ stays_ready k e)
-        (all_among (worked_pids ws))
+        (all_among (updated_pids ws))
 
     -- the pages that were seen are checked out
     pub level_away : AreAway above.table (seen_pids xs)
@@ -225,24 +225,24 @@ module _ {V : Type 0} (s : Settings) (of : Page V → PageOfKind) (t : TreeInMem
     home_rising : AreRisingPids (pids_in_use table_home)
     home_rising = rising-all_come_home above.table xs up.rising
 
-    home_others : (n : ℕ) → is_among n (worked_pids ws) ≡ false → place_of table_home n ≡ place_of above.table n
+    home_others : (n : ℕ) → is_among n (updated_pids ws) ≡ false → place_of table_home n ≡ place_of above.table n
     home_others n e = others-all_come_home n above.table xs (not_seen of t.table n h.seen e)
 
     level_fresh : AreFreshFor ws (fresh_of changes_here)
-    level_fresh = fresh_apart_from (worked_pids ws) level_never
+    level_fresh = fresh_apart_from (updated_pids ws) level_never
 
     fresh_home : AllByRecursion (λ k. place_of table_home k ≡ Some None) (pids (fresh_of changes_here))
     fresh_home =
         let ks : List ℕ = pids (fresh_of changes_here) in
         all_each (λ k. is_among k ks ≡ true) (λ k. place_of table_home k ≡ Some None) ks
-        (λ k e. home_others k (at_among (λ n. is_among n (worked_pids ws) ≡ false) k ks level_fresh e)
+        (λ k e. home_others k (at_among (λ n. is_among n (updated_pids ws) ≡ false) k ks level_fresh e)
         ∙ fresh_untouched s used i ps ws ups joined_here h.stacked.1 h.old h.distinct ready_here above up k (ap (λ (qs : List (Placed V)). is_among k (pids qs)) (fresh_on_level s used i ps ws) ∙ e)
         ∙ fresh_ready k e)
         (all_among ks)
 
     -- ---- its groups are replaced
 
-    abbrev every_group : List (List (Worked V))
+    abbrev every_group : List (List (Updated V))
     every_group = all_groups (families ps ws)
 
     same_groups : groups_here ≡ filter is_rewritten every_group
@@ -251,20 +251,20 @@ module _ {V : Type 0} (s : Settings) (of : Page V → PageOfKind) (t : TreeInMem
     flat_groups : flat every_group ≡ ws
     flat_groups = all_groups-joined (families ps ws) ∙ joined_here
 
-    groups_never : AllByRecursion (IsNeverUnused used) (worked_pids (flat every_group))
-    groups_never = subst (λ (vs : List (Worked V)). AllByRecursion (IsNeverUnused used) (worked_pids vs)) (sym flat_groups) level_never
+    groups_never : AllByRecursion (IsNeverUnused used) (updated_pids (flat every_group))
+    groups_never = subst (λ (vs : List (Updated V)). AllByRecursion (IsNeverUnused used) (updated_pids vs)) (sym flat_groups) level_never
 
-    groups_apart : Distinct (worked_pids (flat every_group))
-    groups_apart = subst (λ (vs : List (Worked V)). Distinct (worked_pids vs)) (sym flat_groups) level_distinct
+    groups_apart : Distinct (updated_pids (flat every_group))
+    groups_apart = subst (λ (vs : List (Updated V)). Distinct (updated_pids vs)) (sym flat_groups) level_distinct
 
     -- the groups that are rewritten can be replaced
     pub level_installs : CanInstallAll table_home (map (remade_of of) changes_here)
     level_installs =
-        let members : AllByRecursion (λ k. IsSome (page_of table_home k)) (worked_pids (flat every_group)) =
-        subst (λ (vs : List (Worked V)). AllByRecursion (λ k. IsSome (page_of table_home k)) (worked_pids vs)) (sym flat_groups) (pages_home of table_home ws level_home) in
+        let members : AllByRecursion (λ k. IsSome (page_of table_home k)) (updated_pids (flat every_group)) =
+        subst (λ (vs : List (Updated V)). AllByRecursion (λ k. IsSome (page_of table_home k)) (updated_pids vs)) (sym flat_groups) (pages_home of table_home ws level_home) in
         let fresh : AllByRecursion (λ k. place_of table_home k ≡ Some None) (pids (fresh_of (changes s used i (filter is_rewritten every_group)))) =
-        subst (λ (gs : List (List (Worked V))). AllByRecursion (λ k. place_of table_home k ≡ Some None) (pids (fresh_of (changes s used i gs)))) same_groups fresh_home in
-        subst (λ (gs : List (List (Worked V))). CanInstallAll table_home (map (remade_of of) (changes s used i gs))) (sym same_groups) (groups_can_be_installed s used of table_home i every_group home_rising groups_never groups_apart members fresh)
+        subst (λ (gs : List (List (Updated V))). AllByRecursion (λ k. place_of table_home k ≡ Some None) (pids (fresh_of (changes s used i gs)))) same_groups fresh_home in
+        subst (λ (gs : List (List (Updated V))). CanInstallAll table_home (map (remade_of of) (changes s used i gs))) (sym same_groups) (groups_can_be_installed s used of table_home i every_group home_rising groups_never groups_apart members fresh)
 
     -- the table after they are replaced
     abbrev pub table_after : Mapping PageOfKind
@@ -272,20 +272,20 @@ module _ {V : Type 0} (s : Settings) (of : Page V → PageOfKind) (t : TreeInMem
 
     level_installed : IsInstalled of table_home table_after changes_here
     level_installed =
-        subst (λ (gs : List (List (Worked V))). IsInstalled of table_home (all_installed table_home (map (remade_of of) (changes s used i gs))) (changes s used i gs)) (sym same_groups) (groups_installed s used of table_home i every_group home_rising groups_never groups_apart)
+        subst (λ (gs : List (List (Updated V))). IsInstalled of table_home (all_installed table_home (map (remade_of of) (changes s used i gs))) (changes s used i gs)) (sym same_groups) (groups_installed s used of table_home i every_group home_rising groups_never groups_apart)
 
     after_rising : AreRisingPids (pids_in_use table_after)
     after_rising =
-        subst (λ (gs : List (List (Worked V))). AreRisingPids (pids_in_use (all_installed table_home (map (remade_of of) (changes s used i gs))))) (sym same_groups) (groups_rising s used of table_home i every_group home_rising groups_never groups_apart)
+        subst (λ (gs : List (List (Updated V))). AreRisingPids (pids_in_use (all_installed table_home (map (remade_of of) (changes s used i gs))))) (sym same_groups) (groups_rising s used of table_home i every_group home_rising groups_never groups_apart)
 
-    groups_outdated : table_after.logged ≡ outdate_all (worked_pids (flat groups_here)) table_home.logged
+    groups_outdated : table_after.logged ≡ outdate_all (updated_pids (flat groups_here)) table_home.logged
     groups_outdated =
-        subst (λ (gs : List (List (Worked V))). (all_installed table_home (map (remade_of of) (changes s used i gs))).logged ≡ outdate_all (worked_pids (flat gs)) table_home.logged) (sym same_groups) (groups_logged s used of table_home i every_group home_rising groups_never groups_apart)
+        subst (λ (gs : List (List (Updated V))). (all_installed table_home (map (remade_of of) (changes s used i gs))).logged ≡ outdate_all (updated_pids (flat gs)) table_home.logged) (sym same_groups) (groups_logged s used of table_home i every_group home_rising groups_never groups_apart)
 
     after_logged : table_after.logged ≡ outdate_all (all_outdated all_here) above.table.logged
     after_logged =
-        let rewritten : List ℕ = worked_pids (flat groups_here) in
-        let replaced : List ℕ = worked_pids (replaced_among ws) in
+        let rewritten : List ℕ = updated_pids (flat groups_here) in
+        let replaced : List ℕ = updated_pids (replaced_among ws) in
         groups_outdated
         ∙ ap (λ (ls : List (ℕ × Logged)). outdate_all rewritten ls) (logged-all_come_home above.table xs ∙ ap (λ (ns : List ℕ). outdate_all ns above.table.logged) (sym (seen_replaced of t.table h.seen)))
         ∙ outdate-joined rewritten replaced above.table.logged

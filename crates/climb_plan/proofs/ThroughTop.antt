@@ -15,9 +15,9 @@ use Rattle.mapping.specs.Table.{Mapping, pids_in_use, place_of, page_of, with_ro
 use Rattle.mapping.specs.Tree.{Logged}
 use Rattle.mapping.specs.TreeInMemory.{TreeInMemory}
 use Rattle.mapping.proofs.PidLemmas.{all_among}
-use Rattle.page_runs.specs.Worked.{Worked}
+use Rattle.page_runs.specs.Updated.{Updated}
 use Rattle.split_plan.specs.Change.{Change, is_rewritten, changes, fresh_of, all_new, all_fresh, all_outdated}
-use Rattle.split_plan.specs.WorkedLevel.{placed_of}
+use Rattle.split_plan.specs.UpdatedLevel.{placed_of}
 use Rattle.climb_plan.specs.Changing.{SeenPage, AreHome}
 use Rattle.climb_plan.specs.Climb.{LevelPlan, alone, climb, climb_of}
 use Rattle.climb_plan.specs.HasClimbed.{HasClimbed}
@@ -29,7 +29,7 @@ use Rattle.climb_plan.proofs.BridgeDrawn.{drawn_places}
 use Rattle.climb_plan.proofs.BridgeTables.{AreDrawn, drawn_others}
 use Rattle.climb_plan.proofs.ChangedRooms.{shifted}
 use Rattle.climb_plan.proofs.ChangingGroups.{fresh_on_top}
-use Rattle.climb_plan.proofs.ChangingOutdated.{worked_pids-placed, among-joined, outdated-top, outdate-joined, outdate-same}
+use Rattle.climb_plan.proofs.ChangingOutdated.{updated_pids-placed, among-joined, outdated-top, outdate-joined, outdate-same}
 use Rattle.climb_plan.proofs.ChangingSeen.{seen_replaced}
 use Rattle.climb_plan.proofs.Climbing.{IsMadeReady, has_level_from}
 use Rattle.climb_plan.proofs.ClimbingTop.{made_on_top, grown_above, own_not_grown, fresh_not_grown, top-climbed}
@@ -39,13 +39,13 @@ use Rattle.climb_plan.proofs.Installing.{distinct_first}
 use Rattle.climb_plan.proofs.InstallingLemmas.{others-all_come_home, rising-all_come_home, logged-all_come_home}
 use Rattle.climb_plan.proofs.ThroughGroups.{fresh_numbers, groups_can_be_installed, groups_installed, groups_rising, groups_logged}
 use Rattle.climb_plan.proofs.ThroughLevel.{seen_pids, seen_distinct, seen_away, not_seen, home_back, pages_home, never_given, all_each}
-use Rattle.climb_plan.proofs.Installed.{IsInstalled, worked_pids, replaced_among}
+use Rattle.climb_plan.proofs.Installed.{IsInstalled, updated_pids, replaced_among}
 use Rattle.climb_plan.proofs.LevelParts.{level_of}
 
-module _ {V : Type 0} (s : Settings) (of : Page V → PageOfKind) (t u : TreeInMemory) (xs : List SeenPage) (ws : List (Worked V)) (used : List ℕ) (i : ℕ) (h : IsLevel of t xs (level_of ws [] used i))
+module _ {V : Type 0} (s : Settings) (of : Page V → PageOfKind) (t u : TreeInMemory) (xs : List SeenPage) (ws : List (Updated V)) (used : List ℕ) (i : ℕ) (h : IsLevel of t xs (level_of ws [] used i))
     (given : List Remade) (pid levels : ℕ) (c : IsTopChanged s of t u (level_of ws [] used i) given pid levels) where
   -- the group, if there is one, and the plan of the level
-  abbrev group_here : List (List (Worked V))
+  abbrev group_here : List (List (Updated V))
   group_here = filter is_rewritten (ws ∷ [])
 
   abbrev changes_here : List (Change V)
@@ -69,13 +69,13 @@ module _ {V : Type 0} (s : Settings) (of : Page V → PageOfKind) (t u : TreeInM
   same_fresh : all_fresh all_here ≡ fresh_of changes_here
   same_fresh = fresh_on_top s used i ws
 
-  own_pids : pids (placed_of ws) ≡ worked_pids ws
-  own_pids = sym (worked_pids-placed ws)
+  own_pids : pids (placed_of ws) ≡ updated_pids ws
+  own_pids = sym (updated_pids-placed ws)
 
-  level_never : AllByRecursion (IsNeverUnused used) (worked_pids ws)
+  level_never : AllByRecursion (IsNeverUnused used) (updated_pids ws)
   level_never = subst (λ (ns : List ℕ). AllByRecursion (IsNeverUnused used) ns) own_pids (all_apart (IsNeverUnused used) (pids (placed_of ws)) [] h.old).0
 
-  level_distinct : Distinct (worked_pids ws)
+  level_distinct : Distinct (updated_pids ws)
   level_distinct = subst (λ (ns : List ℕ). Distinct ns) own_pids (distinct_first (pids (placed_of ws)) [] h.distinct)
 
   given_here : fresh_pids (pids_in_use t.table) count_here ≡ pids (fresh_of changes_here)
@@ -85,7 +85,7 @@ module _ {V : Type 0} (s : Settings) (of : Page V → PageOfKind) (t u : TreeInM
 
   level_fresh : AreFreshFor ws (fresh_of changes_here)
   level_fresh =
-      subst (λ (ks : List ℕ). AllByRecursion (λ k. is_among k (worked_pids ws) ≡ false) ks) (sym (fresh_numbers s used i group_here)) (never_given used (worked_pids ws) (range_with_len i count_here) level_never)
+      subst (λ (ks : List ℕ). AllByRecursion (λ k. is_among k (updated_pids ws) ≡ false) ks) (sym (fresh_numbers s used i group_here)) (never_given used (updated_pids ws) (range_with_len i count_here) level_never)
 
   -- ---- what changed before
 
@@ -96,11 +96,11 @@ module _ {V : Type 0} (s : Settings) (of : Page V → PageOfKind) (t u : TreeInM
     height = c.grown.height;
   }
 
-  places_stay : AllByRecursion (λ k. place_of u.table k ≡ place_of t.table k) (worked_pids ws)
+  places_stay : AllByRecursion (λ k. place_of u.table k ≡ place_of t.table k) (updated_pids ws)
   places_stay =
-      all_each (λ k. is_among k (worked_pids ws) ≡ true) (λ k. place_of u.table k ≡ place_of t.table k) (worked_pids ws)
-      (λ k e. c.grown.others k (own_not_grown s used i ws h.stacked h.old k e) ∙ drawn_others t.table rooms_here count_here used i k drawn_here h.drawn (at_among (IsNeverUnused used) k (worked_pids ws) level_never e))
-      (all_among (worked_pids ws))
+      all_each (λ k. is_among k (updated_pids ws) ≡ true) (λ k. place_of u.table k ≡ place_of t.table k) (updated_pids ws)
+      (λ k e. c.grown.others k (own_not_grown s used i ws h.stacked h.old k e) ∙ drawn_others t.table rooms_here count_here used i k drawn_here h.drawn (at_among (IsNeverUnused used) k (updated_pids ws) level_never e))
+      (all_among (updated_pids ws))
 
   -- the page that was seen is checked out
   pub top_away : AreAway u.table (seen_pids xs)
@@ -117,7 +117,7 @@ module _ {V : Type 0} (s : Settings) (of : Page V → PageOfKind) (t u : TreeInM
   home_rising : AreRisingPids (pids_in_use top_home)
   home_rising = rising-all_come_home u.table xs c.grown.rising
 
-  home_others : (n : ℕ) → is_among n (worked_pids ws) ≡ false → place_of top_home n ≡ place_of u.table n
+  home_others : (n : ℕ) → is_among n (updated_pids ws) ≡ false → place_of top_home n ≡ place_of u.table n
   home_others n e = others-all_come_home n u.table xs (not_seen of t.table n h.seen e)
 
   fresh_stays : (k : ℕ) → is_among k (pids (fresh_of changes_here)) ≡ true → place_of u.table k ≡ Some None
@@ -129,7 +129,7 @@ module _ {V : Type 0} (s : Settings) (of : Page V → PageOfKind) (t u : TreeInM
   fresh_home =
       let ks : List ℕ = pids (fresh_of changes_here) in
       all_each (λ k. is_among k ks ≡ true) (λ k. place_of top_home k ≡ Some None) ks
-      (λ k e. home_others k (at_among (λ n. is_among n (worked_pids ws) ≡ false) k ks level_fresh e) ∙ fresh_stays k e)
+      (λ k e. home_others k (at_among (λ n. is_among n (updated_pids ws) ≡ false) k ks level_fresh e) ∙ fresh_stays k e)
       (all_among ks)
 
   -- ---- the group is replaced
@@ -137,19 +137,19 @@ module _ {V : Type 0} (s : Settings) (of : Page V → PageOfKind) (t u : TreeInM
   only_group : flat (ws ∷ []) ≡ ws
   only_group = append-nil ws
 
-  group_never : AllByRecursion (IsNeverUnused used) (worked_pids (flat (ws ∷ [])))
-  group_never = subst (λ (vs : List (Worked V)). AllByRecursion (IsNeverUnused used) (worked_pids vs)) (sym only_group) level_never
+  group_never : AllByRecursion (IsNeverUnused used) (updated_pids (flat (ws ∷ [])))
+  group_never = subst (λ (vs : List (Updated V)). AllByRecursion (IsNeverUnused used) (updated_pids vs)) (sym only_group) level_never
 
-  group_distinct : Distinct (worked_pids (flat (ws ∷ [])))
-  group_distinct = subst (λ (vs : List (Worked V)). Distinct (worked_pids vs)) (sym only_group) level_distinct
+  group_distinct : Distinct (updated_pids (flat (ws ∷ [])))
+  group_distinct = subst (λ (vs : List (Updated V)). Distinct (updated_pids vs)) (sym only_group) level_distinct
 
   abbrev remade_here : List Remade
   remade_here = map (remade_of of) changes_here
 
   can_install : CanInstallAll top_home remade_here
   can_install =
-      let members : AllByRecursion (λ k. IsSome (page_of top_home k)) (worked_pids (flat (ws ∷ []))) =
-      subst (λ (vs : List (Worked V)). AllByRecursion (λ k. IsSome (page_of top_home k)) (worked_pids vs)) (sym only_group) (pages_home of top_home ws level_home) in
+      let members : AllByRecursion (λ k. IsSome (page_of top_home k)) (updated_pids (flat (ws ∷ []))) =
+      subst (λ (vs : List (Updated V)). AllByRecursion (λ k. IsSome (page_of top_home k)) (updated_pids vs)) (sym only_group) (pages_home of top_home ws level_home) in
       groups_can_be_installed s used of top_home i (ws ∷ []) home_rising group_never group_distinct members fresh_home
 
   -- the group can be replaced, if it is one
@@ -167,8 +167,8 @@ module _ {V : Type 0} (s : Settings) (of : Page V → PageOfKind) (t u : TreeInM
 
   after_logged : table_after.logged ≡ outdate_all (all_outdated all_here) u.table.logged
   after_logged =
-      let rewritten : List ℕ = worked_pids (flat group_here) in
-      let replaced : List ℕ = worked_pids (replaced_among ws) in
+      let rewritten : List ℕ = updated_pids (flat group_here) in
+      let replaced : List ℕ = updated_pids (replaced_among ws) in
       groups_logged s used of top_home i (ws ∷ []) home_rising group_never group_distinct
       ∙ ap (λ (ls : List (ℕ × Logged)). outdate_all rewritten ls) (logged-all_come_home u.table xs ∙ ap (λ (ns : List ℕ). outdate_all ns u.table.logged) (sym (seen_replaced of t.table h.seen)))
       ∙ outdate-joined rewritten replaced u.table.logged
@@ -197,31 +197,31 @@ module _ {V : Type 0} (s : Settings) (of : Page V → PageOfKind) (t u : TreeInM
 -- ---- as code has it
 
 module _ {V : Type 0} (of : Page V → PageOfKind) (t : TreeInMemory) (xs : List SeenPage) where
-  alone_by : (ws : List (Worked V)) (ups : List (List (Placed ℕ))) (used : List ℕ) (i : ℕ) → IsLevel of t xs (level_of ws ups used i) → 0 ≡ length ups → IsLevel of t xs (level_of ws [] used i)
+  alone_by : (ws : List (Updated V)) (ups : List (List (Placed ℕ))) (used : List ℕ) (i : ℕ) → IsLevel of t xs (level_of ws ups used i) → 0 ≡ length ups → IsLevel of t xs (level_of ws [] used i)
   alone_by ws [] used i h e = h
   alone_by ws (up ∷ ups) used i h e = absurd (omega arith)
 
   -- a level that is no level below the root has none above it
   pub top_level : (d : ℕ) → d ≡ 0 → SomeLevel of t xs d → (l : LevelPlan V) × IsLevel of t xs (alone l)
-  top_level d z l = (l.0, alone_by l.0.worked l.0.above l.0.used l.0.from l.1 (sym z ∙ l.2))
+  top_level d z l = (l.0, alone_by l.0.updated l.0.above l.0.used l.0.from l.1 (sym z ∙ l.2))
 
   climbs_by : (s : Settings) (after : TreeInMemory) → ((l : LevelPlan V) → IsLevel of t xs (alone l) → HasClimbed of t after (alone l) (climb_of s (alone l)))
-      → (ws : List (Worked V)) (ups : List (List (Placed ℕ))) (used : List ℕ) (i : ℕ) → IsLevel of t xs (level_of ws ups used i) → 0 ≡ length ups → HasClimbed of t after (level_of ws ups used i) (climb s used i ws ups)
+      → (ws : List (Updated V)) (ups : List (List (Placed ℕ))) (used : List ℕ) (i : ℕ) → IsLevel of t xs (level_of ws ups used i) → 0 ≡ length ups → HasClimbed of t after (level_of ws ups used i) (climb s used i ws ups)
   climbs_by s after f ws [] used i h e = f (level_of ws [] used i) h
   climbs_by s after f ws (up ∷ ups) used i h e = absurd (omega arith)
 
   -- if it has climbed, the levels from it on have
   pub top_climbs : (s : Settings) (after : TreeInMemory) → ((l : LevelPlan V) → IsLevel of t xs (alone l) → HasClimbed of t after (alone l) (climb_of s (alone l))) → ClimbsFrom of s t after xs 0
-  top_climbs s after f l h e = climbs_by s after f l.worked l.above l.used l.from h e
+  top_climbs s after f l h e = climbs_by s after f l.updated l.above l.used l.from h e
 
   high_by : (s : Settings) → ((l : LevelPlan V) → IsLevel of t xs (alone l) → 64 < t.height + length (climb_of s (alone l)).tower.above)
-      → (ws : List (Worked V)) (ups : List (List (Placed ℕ))) (used : List ℕ) (i : ℕ) → IsLevel of t xs (level_of ws ups used i) → 0 ≡ length ups → 64 + length ups < t.height + length (climb s used i ws ups).tower.above
+      → (ws : List (Updated V)) (ups : List (List (Placed ℕ))) (used : List ℕ) (i : ℕ) → IsLevel of t xs (level_of ws ups used i) → 0 ≡ length ups → 64 + length ups < t.height + length (climb s used i ws ups).tower.above
   high_by s f ws [] used i h e = let more : 64 < t.height + length (climb s used i ws []).tower.above = f (level_of ws [] used i) h in omega arith
   high_by s f ws (up ∷ ups) used i h e = absurd (omega arith)
 
   -- and if it would be too high, they would
   pub top_high : (s : Settings) → ((l : LevelPlan V) → IsLevel of t xs (alone l) → 64 < t.height + length (climb_of s (alone l)).tower.above) → IsTooHighFrom of s t xs 0
-  top_high s f l h e = high_by s f l.worked l.above l.used l.from h e
+  top_high s f l h e = high_by s f l.updated l.above l.used l.from h e
 
 -- the same of the level as it was handed on
 pub changed_for : {V D : Type 0} (s : Settings) (of : Page V → PageOfKind) (t u : TreeInMemory) (given : List Remade) (pid levels : ℕ) (seen : D → SeenPage) (ds lent : List D) → lent ≡ ds

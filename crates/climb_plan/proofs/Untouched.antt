@@ -17,11 +17,11 @@ use Rattle.mapping.specs.Levels.{Placed, Levels, entries, joined, name, index_at
 use Rattle.mapping.specs.Proper.{Stacked, IsBranchedTop, IsProper}
 use Rattle.mapping.proofs.SameTree.{root_on_top}
 use Rattle.mapping.proofs.TableOfLevels.{by_pid-unique}
-use Rattle.mapping.proofs.TileLemmas.{Names}
+use Rattle.mapping.proofs.TileLemmas.{Separators}
 use Rattle.page_runs.specs.NetRun.{touched, net_run}
-use Rattle.page_runs.specs.Worked.{Worked, is_thin}
+use Rattle.page_runs.specs.Updated.{Updated, is_thin}
 use Rattle.split_plan.specs.Groups.{Gathered, gathered, groups}
-use Rattle.split_plan.specs.WorkedLevel.{worked_leaves, worked_parents}
+use Rattle.split_plan.specs.UpdatedLevel.{updated_leaves, updated_parents}
 use Rattle.split_plan.specs.Change.{Change, changes, family_changes, new_of, fresh_of, all_new, all_fresh, outdated, all_outdated}
 use Rattle.split_plan.specs.Terms.{freed_of, terms}
 use Rattle.climb_plan.specs.Changing.{same_page}
@@ -32,26 +32,26 @@ use Rattle.climb_plan.proofs.Families.{families_by_length}
 
 -- ---- pages without a run
 
-abbrev pub all_same : {V : Type 0} → List (Placed V) → List (Worked V)
+abbrev pub all_same : {V : Type 0} → List (Placed V) → List (Updated V)
 all_same ps = map same_page ps
 
 module _ {V : Type 0} where
-  leaves_same : (s : Settings) (ps : List (Placed V)) → worked_leaves s [] ps ≡ all_same ps
+  leaves_same : (s : Settings) (ps : List (Placed V)) → updated_leaves s [] ps ≡ all_same ps
   leaves_same s [] = refl
   leaves_same s (p ∷ []) = refl
-  leaves_same s (p ∷ q ∷ qs) = ap (λ (ws : List (Worked V)). same_page p ∷ ws) (leaves_same s (q ∷ qs))
+  leaves_same s (p ∷ q ∷ qs) = ap (λ (ws : List (Updated V)). same_page p ∷ ws) (leaves_same s (q ∷ qs))
 
-  pub parents_same : (s : Settings) (ps : List (Placed V)) (runs : List (List (List ℕ × Option V))) → AllByRecursion (λ run. run ≡ []) runs → worked_parents s ps runs ≡ all_same ps
+  pub parents_same : (s : Settings) (ps : List (Placed V)) (runs : List (List (List ℕ × Option V))) → AllByRecursion (λ run. run ≡ []) runs → updated_parents s ps runs ≡ all_same ps
   parents_same s [] runs h = refl
-  parents_same s (p ∷ ps) [] h = ap (λ (ws : List (Worked V)). same_page p ∷ ws) (parents_same s ps [] tt)
-  parents_same s (p ∷ ps) (run ∷ runs) h = rw h.0 (ap (λ (ws : List (Worked V)). same_page p ∷ ws) (parents_same s ps runs h.1))
+  parents_same s (p ∷ ps) [] h = ap (λ (ws : List (Updated V)). same_page p ∷ ws) (parents_same s ps [] tt)
+  parents_same s (p ∷ ps) (run ∷ runs) h = rw h.0 (ap (λ (ws : List (Updated V)). same_page p ∷ ws) (parents_same s ps runs h.1))
 
   -- ---- each is a group by itself, and stays
 
-  abbrev alone : List (Placed V) → List (List (Worked V))
+  abbrev alone : List (Placed V) → List (List (Updated V))
   alone ps = map (λ p. same_page p ∷ []) ps
 
-  gathered_same : (ps : List (Placed V)) → (let g : Gathered (Worked V) = record { leading = []; groups = alone ps } in gathered is_thin (all_same ps) ≡ g)
+  gathered_same : (ps : List (Placed V)) → (let g : Gathered (Updated V) = record { leading = []; groups = alone ps } in gathered is_thin (all_same ps) ≡ g)
   gathered_same [] = refl
   gathered_same (p ∷ ps) = rw (gathered_same ps) refl
 
@@ -103,9 +103,9 @@ module _ {V : Type 0} where
       let n : ℕ = length (entries p) in
       let a : take n (all_same qs) ≡ all_same (take n qs) = take-map same_page n qs in
       let b : drop n (all_same qs) ≡ all_same (drop n qs) = drop-map same_page n qs in
-      ap (λ (ws : List (Worked V)). ws ∷ families ps (drop n (all_same qs))) a
-      ∙ ap (λ (ws : List (Worked V)). all_same (take n qs) ∷ families ps ws) b
-      ∙ ap (λ (fs : List (List (Worked V))). all_same (take n qs) ∷ fs) (families_same ps (drop n qs))
+      ap (λ (ws : List (Updated V)). ws ∷ families ps (drop n (all_same qs))) a
+      ∙ ap (λ (ws : List (Updated V)). all_same (take n qs) ∷ families ps ws) b
+      ∙ ap (λ (fs : List (List (Updated V))). all_same (take n qs) ∷ fs) (families_same ps (drop n qs))
 
 -- ---- all levels
 
@@ -120,12 +120,12 @@ climb_same s used i (p ∷ q ∷ ps) [] o = absurd (omega arith)
 climb_same {V} s used i ps (parents ∷ ups) o =
     let css : List (List (Change V)) = family_changes s used i (families parents (all_same ps)) in
     let r : AreAllIdle css (families parents ps) = rw (families_same parents ps) (idle_families s used i (families parents ps)) in
-    let count : length (joined parents) ≡ length ps = ap (λ (ns : Names). length ns) o.0.linked ∙ length-map ps name in
+    let count : length (joined parents) ≡ length ps = ap (λ (ns : Separators). length ns) o.0.linked ∙ length-map ps name in
     let level : all_new css ≡ ps = r.new ∙ families_by_length parents ps count in
     let j : ℕ = i + length (all_fresh css) in
-    let vs : worked_parents s parents (map terms css) ≡ all_same parents = parents_same s parents (map terms css) r.termed in
-    let up : climb s used j (worked_parents s parents (map terms css)) ups ≡ as_they_were parents ups =
-    ap (λ (ws : List (Worked ℕ)). climb s used j ws ups) vs ∙ climb_same s used j parents ups o.1 in
+    let vs : updated_parents s parents (map terms css) ≡ all_same parents = parents_same s parents (map terms css) r.termed in
+    let up : climb s used j (updated_parents s parents (map terms css)) ups ≡ as_they_were parents ups =
+    ap (λ (ws : List (Updated ℕ)). climb s used j ws ups) vs ∙ climb_same s used j parents ups o.1 in
     let nothing : all_outdated css ≡ [] = r.outdated in
     rw (up, nothing, level) refl
 
@@ -186,8 +186,8 @@ module _ {A : Type 0} (s : Settings) (t : Tree) (cs : List (Command A)) (proper 
   climbed_same : batch_climb s t cs ≡ as_they_were (levels_of t).level (levels_of t).above
   climbed_same =
       let l : Levels = levels_of t in
-      ap (λ (run : List (List ℕ × Option (List ℕ))). climb s (keys_of t.pages) 0 (worked_leaves s run l.level) l.above) nothing
-      ∙ ap (λ (ws : List (Worked (List ℕ))). climb s (keys_of t.pages) 0 ws l.above) (leaves_same s l.level)
+      ap (λ (run : List (List ℕ × Option (List ℕ))). climb s (keys_of t.pages) 0 (updated_leaves s run l.level) l.above) nothing
+      ∙ ap (λ (ws : List (Updated (List ℕ))). climb s (keys_of t.pages) 0 ws l.above) (leaves_same s l.level)
       ∙ climb_same s (keys_of t.pages) 0 l.level l.above proper.levels.stacked
 
   levels_same : planned_levels s t cs ≡ levels_of t

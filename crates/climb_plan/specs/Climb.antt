@@ -3,8 +3,8 @@ use Rattle.std.specs.Prelude.{ℕ, zero, suc, ◌+◌, Bool, false, nat_lt, nat_
 use Rattle.keys.specs.declared.settings.Settings.{Settings}
 use Rattle.mapping.specs.Levels.{Placed, Tower, entries, names}
 use Rattle.split_plan.specs.Cut.{cut}
-use Rattle.page_runs.specs.Worked.{Worked}
-use Rattle.split_plan.specs.WorkedLevel.{worked_parents}
+use Rattle.page_runs.specs.Updated.{Updated}
+use Rattle.split_plan.specs.UpdatedLevel.{updated_parents}
 use Rattle.split_plan.specs.Change.{Change, fresh_pages, changes, family_changes, all_new, all_fresh, all_outdated}
 use Rattle.split_plan.specs.Terms.{terms}
 
@@ -28,7 +28,7 @@ grown_levels (suc enough) s used i ps =
     else []
 
 -- the highest level: its page is a group by itself, and gets levels above it if it was split
-abbrev pub climbed_top : {V : Type 0} → Settings → List ℕ → ℕ → List (Worked V) → Climbed V
+abbrev pub climbed_top : {V : Type 0} → Settings → List ℕ → ℕ → List (Updated V) → Climbed V
 climbed_top s used i ws =
     let css : List (List (Change _)) = changes s used i (ws ∷ []) ∷ [] in
     let top : List (Placed _) = all_new css in
@@ -36,31 +36,31 @@ climbed_top s used i ws =
 
 -- a level of pages after their runs, and the levels above it as they were: each family is grouped and rewritten, its parent gets the terms, and so on
 -- upward
-abbrev pub climb : {V : Type 0} → Settings → List ℕ → ℕ → List (Worked V) → List (List (Placed ℕ)) → Climbed V
+abbrev pub climb : {V : Type 0} → Settings → List ℕ → ℕ → List (Updated V) → List (List (Placed ℕ)) → Climbed V
 climb s used i ws [] = climbed_top s used i ws
 climb s used i ws (parents ∷ ups) =
     let css : List (List (Change _)) = family_changes s used i (families parents ws) in
-    let up : Climbed ℕ = climb s used (i + length (all_fresh css)) (worked_parents s parents (map terms css)) ups in
+    let up : Climbed ℕ = climb s used (i + length (all_fresh css)) (updated_parents s parents (map terms css)) ups in
     record { tower = record { level = all_new css; above = up.tower.level ∷ up.tower.above }; outdated = all_outdated css ++ up.outdated }
 
 -- a level of pages after their runs, with the levels above it as they were, given that `from` of the unused numbers are already allocated
 pub record LevelPlan (V : Type 0) : Type 0 where
-  pub worked : List (Worked V)
+  pub updated : List (Updated V)
   pub above : List (List (Placed ℕ))
   pub used : List ℕ
   pub from : ℕ
 
 -- the same level with these parents directly above it
 abbrev pub under : {V : Type 0} → List (Placed ℕ) → LevelPlan V → LevelPlan V
-under ps l = record { worked = l.worked; above = ps ∷ l.above; used = l.used; from = l.from }
+under ps l = record { updated = l.updated; above = ps ∷ l.above; used = l.used; from = l.from }
 
 -- the same level without levels above it
 abbrev pub alone : {V : Type 0} → LevelPlan V → LevelPlan V
-alone l = record { worked = l.worked; above = []; used = l.used; from = l.from }
+alone l = record { updated = l.updated; above = []; used = l.used; from = l.from }
 
 -- the level and those above it after the climb
 abbrev pub climb_of : {V : Type 0} → Settings → LevelPlan V → Climbed V
-climb_of s l = climb s l.used l.from l.worked l.above
+climb_of s l = climb s l.used l.from l.updated l.above
 
 -- whether a level is one page with one child
 abbrev pub is_lone : List (Placed ℕ) → Bool

@@ -9,7 +9,7 @@ use Rattle.mapping.specs.Outdate.{outdate_all}
 use Rattle.mapping.specs.Proper.{Stacked, Distinct, AreRisingPids}
 use Rattle.mapping.specs.Table.{pids_in_use, place_of}
 use Rattle.mapping.specs.TreeInMemory.{TreeInMemory}
-use Rattle.split_plan.specs.WorkedLevel.{placed_of}
+use Rattle.split_plan.specs.UpdatedLevel.{placed_of}
 use Rattle.climb_plan.specs.Changing.{AreHome}
 use Rattle.climb_plan.specs.Climb.{Climbed, LevelPlan, kept_levels}
 use Rattle.climb_plan.specs.Plan.{shrunk_pids}
@@ -19,8 +19,8 @@ use Rattle.climb_plan.specs.Plan.{shrunk_pids}
 pub record HasClimbed {V : Type 0} (of : Page V → PageOfKind) (before after : TreeInMemory) (l : LevelPlan V) (c : Climbed V) : Type 0 where
   pub level : AreHome of after.table c.tower.level
   pub above : AllByRecursion (AreHome Index after.table) c.tower.above
-  pub gone : (pid : ℕ) → is_among pid (all_pids (placed_of l.worked) l.above) ≡ true → is_among pid (all_pids c.tower.level c.tower.above) ≡ false → place_of after.table pid ≡ None
-  pub others : (pid : ℕ) → is_among pid (all_pids (placed_of l.worked) l.above) ≡ false → is_among pid (all_pids c.tower.level c.tower.above) ≡ false → place_of after.table pid ≡ place_of before.table pid
+  pub gone : (pid : ℕ) → is_among pid (all_pids (placed_of l.updated) l.above) ≡ true → is_among pid (all_pids c.tower.level c.tower.above) ≡ false → place_of after.table pid ≡ None
+  pub others : (pid : ℕ) → is_among pid (all_pids (placed_of l.updated) l.above) ≡ false → is_among pid (all_pids c.tower.level c.tower.above) ≡ false → place_of after.table pid ≡ place_of before.table pid
   pub rising : AreRisingPids (pids_in_use after.table)
   pub logged : after.table.logged ≡ outdate_all c.outdated before.table.logged
   pub root : after.root ≡ top_pid c.tower.level c.tower.above

@@ -1,7 +1,7 @@
 -- The changes of a climb to the mapping table, one page after the other.
 use Rattle.std.specs.Prelude.{◌≡◌, ℕ, suc, ◌+◌, ◌<◌, ⊤, false, List, [], ◌∷◌, ◌++◌, flat_map, drop, length, Option, Some, None, IsSome, if◌then◌else◌}
 use Rattle.std.specs.List.{AllByRecursion}
-use Rattle.keys.specs.Bytes.{Changes, Names}
+use Rattle.keys.specs.Bytes.{Changes, Separators}
 use Rattle.keys.specs.declared.settings.Settings.{Settings}
 use Rattle.index_page.specs.Page.{PageOfKind}
 use Rattle.index_page.specs.Page.PageOfKind.{Leaf, Index}
@@ -128,7 +128,7 @@ pub record AreGrown (before after : TreeInMemory) (ls : List (List (Placed ℕ))
   pub height : after.height ≡ before.height
 
 -- a property of the pages with these entries and of the levels added above them, whose pids are the next ones of the table
-abbrev pub OfGrown : Settings → Mapping PageOfKind → Names → (List (Placed ℕ) → List (List (Placed ℕ)) → Type 0) → Type 0
+abbrev pub OfGrown : Settings → Mapping PageOfKind → Separators → (List (Placed ℕ) → List (List (Placed ℕ)) → Type 0) → Type 0
 OfGrown s t ns P =
     (used : List ℕ) (from : ℕ) (ps : List (Placed ℕ)) → DrawsFrom t used from → names ps ≡ ns → P ps (grown_levels (length ps) s used from ps)
 
@@ -139,7 +139,7 @@ HasGrown before after top height ps ls = (top.0 ≡ top_pid ps ls) × (top.1 ≡
 -- ---- shrinking the root
 
 -- the pid of the only child in these entries, if there is exactly one
-abbrev pub only_pid : Names → Option ℕ
+abbrev pub only_pid : Separators → Option ℕ
 only_pid [] = None
 only_pid (e ∷ []) = Some e.1
 only_pid (e ∷ f ∷ es) = None

@@ -1,13 +1,13 @@
 -- The requirements and results of the functions of a climb for a level, whatever its plan is.
 use Rattle.std.specs.Prelude.{◌≡◌, ◌≢◌, ℕ, ◌+◌, ◌-◌, ◌<◌, ◌≤◌, List, length, Vec, Result, Ok, Err}
-use Rattle.keys.specs.Bytes.{Names}
+use Rattle.keys.specs.Bytes.{Separators}
 use Rattle.keys.specs.declared.settings.Settings.{Settings}
 use Rattle.index_page.specs.Page.{Page, PageOfKind}
 use Rattle.index_page.specs.Page.PageOfKind.{Index}
 use Rattle.mapping.specs.Levels.{Placed}
 use Rattle.mapping.specs.Tree.{most_levels}
 use Rattle.mapping.specs.TreeInMemory.{TreeInMemory}
-use Rattle.page_runs.specs.TermWork.{IndexWorked}
+use Rattle.page_runs.specs.TermWork.{IndexUpdate}
 use Rattle.climb_plan.specs.Changing.{SeenPage, parents_seen}
 use Rattle.climb_plan.specs.Climb.{LevelPlan, under, alone, climb_of}
 use Rattle.climb_plan.specs.HasClimbed.{HasClimbed}
@@ -31,12 +31,12 @@ module _ {V : Type 0} (of : Page V → PageOfKind) where
   -- ---- results
 
   -- the groups of the level that are rewritten are split
-  abbrev pub CutsFrom : Settings → TreeInMemory → List SeenPage → ℕ → List (ℕ × ℕ) → List Names → List Remade → Type 0
+  abbrev pub CutsFrom : Settings → TreeInMemory → List SeenPage → ℕ → List (ℕ × ℕ) → List Separators → List Remade → Type 0
   CutsFrom s t xs depth parents freed groups =
       (l : LevelPlan V) (ps : List (Placed ℕ)) → IsLevel of t xs (under ps l) → depth ≡ length l.above → IsCut s of l ps parents freed groups
 
   -- its groups and its parents have changed as the plan says
-  abbrev pub ChangesFrom : Settings → TreeInMemory → TreeInMemory → List SeenPage → ℕ → List Remade → List IndexWorked → Type 0
+  abbrev pub ChangesFrom : Settings → TreeInMemory → TreeInMemory → List SeenPage → ℕ → List Remade → List IndexUpdate → Type 0
   ChangesFrom s before after xs depth groups parents =
       (l : LevelPlan V) (ps : List (Placed ℕ)) → IsLevel of before xs (under ps l) → depth ≡ length l.above → IsChanged s of before after l ps groups parents
 
@@ -63,7 +63,7 @@ pub record Working : Type 0 where
   pub depth : ℕ
   pub before : TreeInMemory
   pub ready : TreeInMemory
-  pub parents : List IndexWorked
+  pub parents : List IndexUpdate
 
 -- the state of this level
 pub record IsWorkedOn {V : Type 0} (of : Page V → PageOfKind) (s : Settings) (w : Working) (xs : List SeenPage) (groups : List Remade) : Type 0 where
@@ -78,17 +78,17 @@ pub record HaveClimbed (s : Settings) (w : Working) (now : TreeInMemory) : Type 
   pub low : now.height ≤ most_levels
 
 -- the climb of its parents failed
-pub record AreRefused (s : Settings) (w : Working) (now : TreeInMemory) (why : Refused) (given : List IndexWorked) : Type 0 where
+pub record AreRefused (s : Settings) (w : Working) (now : TreeInMemory) (why : Refused) (given : List IndexUpdate) : Type 0 where
   pub same : now ≡ w.ready
   pub back : given ≡ w.parents
   pub high : why ≡ TooHigh → IsTooHighFrom Index s w.ready (parents_seen w.parents) (w.depth - 1)
 
 -- one of the two, according to the result of the parents' climb
-abbrev pub HaveEnded : {U A : Type 0} → Settings → Working → TreeInMemory → Result U (Refused × Vec IndexWorked A) → Type 0
+abbrev pub HaveEnded : {U A : Type 0} → Settings → Working → TreeInMemory → Result U (Refused × Vec IndexUpdate A) → Type 0
 HaveEnded s w now (Ok done) = HaveClimbed s w now
 HaveEnded s w now (Err refused) = AreRefused s w now refused.0 refused.1.items
 
 -- the level can be ended
-pub record CanEnd {V U A : Type 0} (of : Page V → PageOfKind) (s : Settings) (w : Working) (now : TreeInMemory) (xs : List SeenPage) (groups : List Remade) (climbed : Result U (Refused × Vec IndexWorked A)) : Type 0 where
-  pub worked : IsWorkedOn of s w xs groups
+pub record CanEnd {V U A : Type 0} (of : Page V → PageOfKind) (s : Settings) (w : Working) (now : TreeInMemory) (xs : List SeenPage) (groups : List Remade) (climbed : Result U (Refused × Vec IndexUpdate A)) : Type 0 where
+  pub updated : IsWorkedOn of s w xs groups
   pub ended : HaveEnded s w now climbed

@@ -2,7 +2,7 @@
 use Rattle.std.specs.Prelude.{◌≤◌, List, length, Option, IfSome}
 use Rattle.std.specs.List.{AllByRecursion}
 use Rattle.keys.specs.Bytes.{Bytes}
-use Rattle.keys.specs.Footprint.{Span, One, Range, Deed, Gives, span_of, deed_of}
+use Rattle.keys.specs.Footprint.{Span, One, Range, Access, Gives, span_of, access_of}
 use Rattle.keys.specs.declared.settings.Settings.{Settings}
 use Rattle.keys.specs.declared.command.Command.{Command}
 
@@ -15,13 +15,13 @@ abbrev pub AreShortBounds : Settings → Bytes → Option Bytes → Type 0
 AreShortBounds s lo hi = (length lo ≤ s.max_key) × IfSome hi (λ end. length end ≤ s.max_key)
 
 -- the key of a command and the value that it sets, or its bounds, are no longer than the settings allow
-abbrev pub IsShortDeed : Settings → Span → Deed → Type 0
-IsShortDeed s (One k) (Gives v) = IsShortPair s k v
-IsShortDeed s (One k) deed = length k ≤ s.max_key
-IsShortDeed s (Range lo hi) deed = AreShortBounds s lo hi
+abbrev pub IsShortAccess : Settings → Span → Access → Type 0
+IsShortAccess s (One k) (Gives v) = IsShortPair s k v
+IsShortAccess s (One k) deed = length k ≤ s.max_key
+IsShortAccess s (Range lo hi) deed = AreShortBounds s lo hi
 
 abbrev pub IsShortCommand : {A : Type 0} → Settings → Command A → Type 0
-IsShortCommand s c = IsShortDeed s (span_of c) (deed_of c)
+IsShortCommand s c = IsShortAccess s (span_of c) (access_of c)
 
 abbrev pub AreShort : {A : Type 0} → Settings → List (Command A) → Type 0
 AreShort s cs = AllByRecursion (IsShortCommand s) cs

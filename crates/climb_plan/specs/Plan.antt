@@ -8,14 +8,14 @@ use Rattle.mapping.specs.Tree.{Tree, Store, with_tree}
 use Rattle.mapping.specs.Outdate.{outdate_all}
 use Rattle.mapping.specs.Levels.{Placed, Levels, levels_of, contents, all_pages, by_pid, top_pid, pids}
 use Rattle.page_runs.specs.NetRun.{net_run}
-use Rattle.split_plan.specs.WorkedLevel.{worked_leaves}
+use Rattle.split_plan.specs.UpdatedLevel.{updated_leaves}
 use Rattle.climb_plan.specs.Climb.{Climbed, climb, kept_levels}
 
 -- the levels after the commands: each leaf gets its part of the net run, and the levels above get their terms
 abbrev pub batch_climb : {A : Type 0} → Settings → Tree → List (Command A) → Climbed Bytes
 batch_climb s t cs =
     let l : Levels = levels_of t in
-    climb s (keys_of t.pages) 0 (worked_leaves s (net_run (contents t) cs) l.level) l.above
+    climb s (keys_of t.pages) 0 (updated_leaves s (net_run (contents t) cs) l.level) l.above
 
 -- the levels that remain after the root has shrunk
 abbrev pub shrunk_levels : Climbed Bytes → Levels

@@ -1,7 +1,7 @@
 -- Which groups of a level are rewritten, and their new pages, for pages of either kind, in the code's form.
 use Rattle.std.specs.Prelude.{◌≡◌, ℕ, ◌+◌, ◌-◌, ◌<◌, ◌≤◌, ⊤, Bool, false, true, List, [], ◌∷◌, ◌++◌, map, flat_map, take, drop, length, Some, None, Vec}
 use Rattle.std.specs.List.{filter, AllByRecursion, range_with_len}
-use Rattle.keys.specs.Bytes.{Bytes, Changes, Names}
+use Rattle.keys.specs.Bytes.{Bytes, Changes, Separators}
 use Rattle.keys.specs.Lists.{flat}
 use Rattle.keys.specs.Order.{IsRising}
 use Rattle.keys.specs.declared.settings.Settings.{Settings}
@@ -18,11 +18,11 @@ use Rattle.mapping.specs.Proper.{next_low, Tiled, Stacked}
 use Rattle.mapping.specs.Table.{Mapping, page_of}
 use Rattle.mapping.specs.TreeInMemory.{TreeInMemory}
 use Rattle.page_runs.specs.declared.class.Class.TheVariants.{Same}
-use Rattle.page_runs.specs.Worked.{is_thin_class, is_fat_class}
+use Rattle.page_runs.specs.Updated.{is_thin_class, is_fat_class}
 use Rattle.split_plan.specs.Groups.{groups}
 use Rattle.split_plan.specs.Pieces.{group_made, CanJoin}
 use Rattle.split_plan.specs.Terms.{absent, present}
-use Rattle.climb_plan.specs.Changing.{SeenPage, calls}
+use Rattle.climb_plan.specs.Changing.{SeenPage, needs_restructuring}
 use Rattle.climb_plan.specs.declared.seen.Seen.{Seen}
 
 -- ---- views of pages
@@ -54,7 +54,7 @@ is_rewritten_seen (x ∷ y ∷ xs) = true
 -- the pages of a level that got a run, in order; each other page is in the table
 pub data AreSeenIn (t : Mapping PageOfKind) : List SeenPage → List SeenPage → Type 0 where
   none : AreSeenIn t [] []
-  worked : {xs all : List SeenPage} → (x : SeenPage) → AreSeenIn t xs all → AreSeenIn t (x ∷ xs) (x ∷ all)
+  updated : {xs all : List SeenPage} → (x : SeenPage) → AreSeenIn t xs all → AreSeenIn t (x ∷ xs) (x ∷ all)
   at_home : {xs all : List SeenPage} → (x : SeenPage) → x.class ≡ Same → x.replaced ≡ false → page_of t x.pid ≡ Some x.page → AreSeenIn t xs all → AreSeenIn t xs (x ∷ all)
 
 -- ---- groups
@@ -117,7 +117,7 @@ OfLevelSeen t depth xs P =
 
 -- the page is neither thin nor fat
 abbrev pub IsQuiet : SeenPage → Type 0
-IsQuiet x = calls x.class ≡ false
+IsQuiet x = needs_restructuring x.class ≡ false
 
 -- the low keys of pages
 abbrev pub lows : List SeenPage → List Bytes
@@ -127,7 +127,7 @@ lows xs = map (λ x. low_of x.page) xs
 pub record IsFirstCall (xs quiet : List SeenPage) (x : SeenPage) (more : List SeenPage) : Type 0 where
   pub parted : xs ≡ quiet ++ x ∷ more
   pub none_earlier : AllByRecursion IsQuiet quiet
-  pub call : calls x.class ≡ true
+  pub call : needs_restructuring x.class ≡ true
 
 -- the key is the low key of the first page that is thin or fat
 abbrev pub HasFirstCall : List SeenPage → Bytes → Type 0
@@ -202,11 +202,11 @@ abbrev pub CanBeCut : List (List SeenPage) → Type 0
 CanBeCut gs = AllByRecursion (λ g. CanJoin (map (λ x. x.page) g)) gs
 
 -- lists of entries in the code's form
-abbrev pub all_names : {A : Type 0} → List (Vec (Bytes × ℕ) A) → List Names
+abbrev pub all_names : {A : Type 0} → List (Vec (Bytes × ℕ) A) → List Separators
 all_names lists = map (λ names. names.items) lists
 
 -- the parents' entries of the freed members
-abbrev pub freed_names : List SeenPage → Names
+abbrev pub freed_names : List SeenPage → Separators
 freed_names g = map seen_name (drop 1 g)
 
 -- each group has a page
@@ -226,39 +226,39 @@ numbers [] = 0
 numbers (r ∷ rs) = (length r.pieces - 1) + numbers rs
 
 -- the entries of pages with these pids
-abbrev pub named_pages : List PageOfKind → List ℕ → Names
+abbrev pub named_pages : List PageOfKind → List ℕ → Separators
 named_pages [] pids = []
 named_pages (p ∷ ps) [] = []
 named_pages (p ∷ ps) (pid ∷ pids) = (low_of p, pid) ∷ named_pages ps pids
 
 -- the entries of a group's new pages
-abbrev pub fresh_names : Remade → Names
+abbrev pub fresh_names : Remade → Separators
 fresh_names r = named_pages (drop 1 r.pieces) r.fresh
 
 -- the entries of all pages of a group, the first one under the first member's pid
-abbrev pub group_names : Remade → Names
+abbrev pub group_names : Remade → Separators
 group_names r = named_pages r.pieces (take 1 r.members ++ r.fresh)
 
 -- the entries of the pages of the highest level: those of this group's pages, or of the unchanged root if there is no group
-abbrev pub top_names : ℕ → List Remade → Names
+abbrev pub top_names : ℕ → List Remade → Separators
 top_names root [] = ([], root) ∷ []
 top_names root (r ∷ rs) = group_names r
 
 -- the run of a parent's terms, from the freed entries of its groups and the entries of the new pages
-abbrev pub terms_of : List Names → List Remade → Changes ℕ
+abbrev pub terms_of : List Separators → List Remade → Changes ℕ
 terms_of fs rs = with_run (absent (flat fs)) (present (flat_map fresh_names rs))
 
 -- each parent, given with the number of its groups, with the run of its terms
-abbrev pub terms_by_parent : List (ℕ × ℕ) → List Names → List Remade → List (ℕ × Changes ℕ)
+abbrev pub terms_by_parent : List (ℕ × ℕ) → List Separators → List Remade → List (ℕ × Changes ℕ)
 terms_by_parent [] fs rs = []
 terms_by_parent (c ∷ cs) fs rs = (c.0, terms_of (take c.1 fs) (take c.1 rs)) ∷ terms_by_parent cs (drop c.1 fs) (drop c.1 rs)
 
 -- the parents that get terms
-abbrev pub term_parents : List (ℕ × ℕ) → List Names → List Remade → List ℕ
+abbrev pub term_parents : List (ℕ × ℕ) → List Separators → List Remade → List ℕ
 term_parents cs fs rs = map (λ t. t.0) (terms_by_parent cs fs rs)
 
 -- there are as many groups as the parents' numbers say, and terms can be made of their entries, because these rise
-abbrev pub CanTakeTerms : List (ℕ × ℕ) → List Names → List Remade → Type 0
+abbrev pub CanTakeTerms : List (ℕ × ℕ) → List Separators → List Remade → Type 0
 CanTakeTerms [] fs rs = ⊤
 CanTakeTerms (c ∷ cs) fs rs =
     (c.1 ≤ length fs) × (c.1 ≤ length rs) × IsRising (flat (take c.1 fs)) × IsRising (flat_map fresh_names (take c.1 rs))

@@ -17,7 +17,7 @@ use crate::change::{Rewritten, free_drawn};
 use crate::install::{install_all, put_home, undo_parents};
 use crate::level::{Changed, change_level};
 use crate::refused::Refused;
-use crate::seen::WorkedPage;
+use crate::seen::UpdatedPage;
 use crate::shrink::shrink;
 use crate::top::climb_root;
 use crew::{Crew, Gate};
@@ -146,7 +146,7 @@ fn climb_parents(
 // replaces its groups. Otherwise undoes the changes of its parents and frees the page ids of its new pages, which
 // restores the tree.
 #[inline(never)]
-fn finish_level<D: WorkedPage>(
+fn finish_level<D: UpdatedPage>(
     rt: &(impl Threads + Sync),
     crew: Crew,
     alloc: Global,

@@ -15,7 +15,7 @@ use index_page::Page;
 use keys::{Key, Pid, Settings};
 use mapping::Tree;
 use mapping::laws::drawn_pids_get_places_that_are_away;
-use split_plan::{GroupDone, GroupJob, GroupWork, Name, terms};
+use split_plan::{GroupDone, GroupJob, GroupWork, Separator, terms};
 use std::alloc::{AllocError, Global};
 use std::collections::VecDeque;
 use std::marker::Model;
@@ -124,7 +124,7 @@ fn pids_of(alloc: Global, group: &[Seen<'_>]) -> Result<Vec<Pid>, AllocError>
 pub(crate) fn all_freed(
     alloc: Global,
     groups: &[Vec<Seen<'_>>],
-) -> Result<Vec<Vec<Name>>, AllocError>
+) -> Result<Vec<Vec<Separator>>, AllocError>
     ensures { IfOk result (λ all. all_names all.items ≡ map freed_names (groups_seen groups.now)) }
 {
     let mut all = Vec::with_capacity(alloc, groups.len())?;
@@ -135,7 +135,7 @@ pub(crate) fn all_freed(
 }
 
 // The parent's entries of a group's members except the first.
-fn freed_of(alloc: Global, group: &[Seen<'_>]) -> Result<Vec<Name>, AllocError>
+fn freed_of(alloc: Global, group: &[Seen<'_>]) -> Result<Vec<Separator>, AllocError>
     ensures { IfOk result (λ names. names.items ≡ freed_names (all_seen group.now)) }
 {
     match group {
@@ -145,12 +145,12 @@ fn freed_of(alloc: Global, group: &[Seen<'_>]) -> Result<Vec<Name>, AllocError>
 }
 
 // The entries of these pages in their parent.
-fn names_of(alloc: Global, pages: &[Seen<'_>]) -> Result<Vec<Name>, AllocError>
+fn names_of(alloc: Global, pages: &[Seen<'_>]) -> Result<Vec<Separator>, AllocError>
     ensures { IfOk result (λ names. names.items ≡ map seen_name (all_seen pages.now)) }
 {
     let mut names = Vec::with_capacity(alloc, pages.len())?;
     for seen in pages {
-        names.push_reserved(Name {
+        names.push_reserved(Separator {
             low: Key::from_bytes(alloc, seen.page.low())?,
             pid: seen.pid,
         });
@@ -227,7 +227,7 @@ pub(crate) fn free_all(tree: &mut Tree<Global>, pids: &[u64])
 pub(crate) fn all_terms(
     alloc: Global,
     parents: &[(Pid, usize)],
-    freed: Vec<Vec<Name>>,
+    freed: Vec<Vec<Separator>>,
     all: &[Rewritten],
 ) -> Result<Vec<(Pid, Run<Pid, Global>)>, AllocError>
     requires { CanTakeTerms parents.now (all_names freed.items) all.now }
@@ -249,7 +249,7 @@ pub(crate) fn all_terms(
 // The run of terms of a parent with these groups. Removes their lists of freed entries, which come first, from `freed`.
 fn next_terms(
     alloc: Global,
-    freed: &mut VecDeque<Vec<Name>>,
+    freed: &mut VecDeque<Vec<Separator>>,
     own: &[Rewritten],
 ) -> Result<Run<Pid, Global>, AllocError>
     requires freed { IsRising (flat (take (length own.now) (all_names freed.old.items))) }
@@ -267,9 +267,9 @@ fn next_terms(
 // Removes the next `count` lists of entries and concatenates them.
 fn next_names(
     alloc: Global,
-    lists: &mut VecDeque<Vec<Name>>,
+    lists: &mut VecDeque<Vec<Separator>>,
     count: usize,
-) -> Result<Vec<Name>, AllocError>
+) -> Result<Vec<Separator>, AllocError>
     ensures names { IfOk result (λ names. names.items ≡
         flat (take count (all_names lists.old.items))) }
     ensures rest { OnOk result (all_names lists.new.items ≡
@@ -286,7 +286,7 @@ fn next_names(
 }
 
 // The entries for the groups' new pages, from left to right.
-fn new_names(alloc: Global, all: &[Rewritten]) -> Result<Vec<Name>, AllocError>
+fn new_names(alloc: Global, all: &[Rewritten]) -> Result<Vec<Separator>, AllocError>
     ensures { IfOk result (λ names. names.items ≡ flat_map fresh_names all.now) }
 {
     let mut names = Vec::new(alloc);
@@ -301,12 +301,12 @@ fn push_names(
     alloc: Global,
     pages: &[Page<Global>],
     pids: &[u64],
-    names: &mut Vec<Name>,
+    names: &mut Vec<Separator>,
 ) -> Result<(), AllocError>
     ensures { OnOk result (names.new.items ≡ names.old.items ++ named_pages pages.now pids.now) }
 {
     for (page, pid) in pages.iter().zip(pids) {
-        names.push(Name {
+        names.push(Separator {
             low: Key::from_bytes(alloc, page.low())?,
             pid: Pid(*pid),
         })?;
@@ -329,14 +329,14 @@ impl Rewritten {
     }
 
     /// The entries for all pages of the group, the first one under the first member's page id.
-    pub(crate) fn names(&self, alloc: Global) -> Result<Vec<Name>, AllocError>
+    pub(crate) fn names(&self, alloc: Global) -> Result<Vec<Separator>, AllocError>
         ensures { IfOk result (λ names. names.items ≡
             named_pages self.now.pieces (take 1 self.now.members ++ self.now.fresh)) }
     {
         let mut names = Vec::with_capacity(alloc, self.pieces.len())?;
         let others = match (self.pieces.as_slice(), self.members.first()) {
             ([first, others @ ..], Some(pid)) => {
-                names.push_reserved(Name {
+                names.push_reserved(Separator {
                     low: Key::from_bytes(alloc, first.low())?,
                     pid: *pid,
                 });

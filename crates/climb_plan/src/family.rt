@@ -46,7 +46,7 @@ pub(crate) fn rewrites<'a>(
         groups: Vec::new(alloc),
     };
     let mut done = 0;
-    while let Some(low) = first_call(left_from(seen, done)) {
+    while let Some(low) = first_to_restructure(left_from(seen, done)) {
         let parent = parent_of(tree, depth, low);
         done += add_family(alloc, tree, parent, left_from(seen, done), &mut rewrites)?;
     }
@@ -62,12 +62,12 @@ fn left_from<'s, 'a>(seen: &'s [Seen<'a>], done: usize) -> &'s [Seen<'a>]
 }
 
 // The low key of the first page that is thin or fat.
-fn first_call<'a>(seen: &[Seen<'a>]) -> Option<&'a [u8]>
+fn first_to_restructure<'a>(seen: &[Seen<'a>]) -> Option<&'a [u8]>
     ensures { MatchOption result (AllByRecursion IsQuiet (all_seen seen.now))
         (λ low. HasFirstCall (all_seen seen.now) low.now) }
 {
     for page in seen {
-        if page.calls() {
+        if page.needs_restructuring() {
             return Some(page.page.low());
         }
     }

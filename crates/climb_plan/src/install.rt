@@ -9,7 +9,7 @@ ghost use Rattle.mapping.specs.Table.{page_of, place_of, with_place, log_outdate
 ghost use Rattle.climb_plan.specs.Installing.{all_taken, all_put, AreAway, AreParentsHome, parent_held, come_home, all_come_home, members_freed, put_under, group_installed, all_installed, CanInstall, CanInstallAll};
 
 use crate::change::Rewritten;
-use crate::seen::WorkedPage;
+use crate::seen::UpdatedPage;
 use crew::{Crew, Gate, Work, drop_all, run_round};
 use delta_chain::Run;
 use index_page::Page;
@@ -126,7 +126,7 @@ pub(crate) fn undo_parents(
 /// Puts the pages back after their runs. The crew drops the remains of the leaves' work, for example replaced leaves,
 /// because that takes as long as making new ones. If there is no memory to collect the remains for the crew, drops them
 /// one by one instead.
-pub(crate) fn put_home<D: WorkedPage>(
+pub(crate) fn put_home<D: UpdatedPage>(
     rt: &(impl Threads + Sync),
     crew: Crew,
     alloc: Global,
@@ -141,7 +141,7 @@ pub(crate) fn put_home<D: WorkedPage>(
 }
 
 // Puts the pages back, and returns the remains of their work, as far as there is room for them.
-fn rests_once_home<D: WorkedPage>(
+fn rests_once_home<D: UpdatedPage>(
     alloc: Global,
     tree: &mut Tree<Global>,
     dones: Vec<D>,
@@ -169,7 +169,7 @@ fn keep_if_room<T: Drop>(items: &mut Vec<T>, item: Option<T>) {
 
 // Puts the page back after its run, and returns the remains of its work. If the page was replaced, its log state
 // becomes outdated.
-fn come_home<D: WorkedPage>(tree: &mut Tree<Global>, done: D) -> Option<LeafRest>
+fn come_home<D: UpdatedPage>(tree: &mut Tree<Global>, done: D) -> Option<LeafRest>
     requires { place_of tree.old.table (D.seen_page done).pid ≡ Some None }
     ensures { tree.new ≡ record tree.old { table = come_home tree.old.table (D.seen_page done) } }
 {

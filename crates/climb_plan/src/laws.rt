@@ -16,9 +16,9 @@ ghost use Rattle.mapping.specs.FreshPids.{is_among, unused};
 ghost use Rattle.mapping.specs.Levels.{Placed, contents, levels_of, all_pids};
 ghost use Rattle.mapping.specs.Proper.{AreLogsTrue, IsProper};
 ghost use Rattle.page_runs.specs.NetRun.{net_run};
-ghost use Rattle.page_runs.specs.Worked.{Worked, is_thin};
+ghost use Rattle.page_runs.specs.Updated.{Updated, is_thin};
 ghost use Rattle.split_plan.specs.Groups.{groups};
-ghost use Rattle.split_plan.specs.WorkedLevel.{worked_parents};
+ghost use Rattle.split_plan.specs.UpdatedLevel.{updated_parents};
 ghost use Rattle.split_plan.specs.Change.{Change, family_changes, all_fresh, IsOutdatedIn};
 ghost use Rattle.split_plan.specs.Terms.{terms};
 ghost use Rattle.climb_plan.specs.Limits.{AreShort};
@@ -72,15 +72,15 @@ pub fn outdated_pids_are_those_of_groups_and_of_the_old_root<A: Allocator, V>()
         ⊎ (is_among pid (shrunk_pids (batch_climb s t cs).tower.above) ≡ true)) }
     ensures in_use { (s : Settings) (t : Tree) (cs : List (Command A)) (pid : ℕ) → IsProper s t →
         is_among pid (outdated_pids s t cs) ≡ true → is_among pid (keys_of t.pages) ≡ true }
-    ensures top { (s : Settings) (used : List ℕ) (i : ℕ) (ws : List (Worked V)) (pid : ℕ) →
+    ensures top { (s : Settings) (used : List ℕ) (i : ℕ) (ws : List (Updated V)) (pid : ℕ) →
         (is_among pid (climb s used i ws []).outdated ≡ true) ↔ IsOutdatedIn ws pid }
-    ensures below { (s : Settings) (used : List ℕ) (i : ℕ) (ws : List (Worked V))
+    ensures below { (s : Settings) (used : List ℕ) (i : ℕ) (ws : List (Updated V))
         (parents : List (Placed ℕ)) (ups : List (List (Placed ℕ))) (pid : ℕ) →
         let css : List (List (Change V)) = family_changes s used i (families parents ws) in
         (is_among pid (climb s used i ws (parents ∷ ups)).outdated ≡ true) ↔
         (Any (λ f. Any (λ g. IsOutdatedIn g pid) (groups is_thin f)) (families parents ws)
         ⊎ (is_among pid (climb s used (i + length (all_fresh css))
-        (worked_parents s parents (map terms css)) ups).outdated ≡ true)) }
+        (updated_parents s parents (map terms css)) ups).outdated ≡ true)) }
 {}
 
 /// The root shrinks while it has one child: the removed levels are the highest ones, each of them is one page with one

@@ -10,12 +10,12 @@ ghost use Rattle.climb_plan.specs.Rewriting.{all_names, term_parents, terms_by_p
 use crate::change::{Rewritten, all_freed, all_terms, cut_all, draw_all, free_drawn};
 use crate::family::rewrites;
 use crate::install::work_parents;
-use crate::seen::{WorkedPage, see_all};
+use crate::seen::{UpdatedPage, see_all};
 use crew::{Crew, Gate};
 use keys::{Pid, Settings};
 use mapping::Tree;
 use page_runs::TermDone;
-use split_plan::Name;
+use split_plan::Separator;
 use std::alloc::{AllocError, Global};
 use std::thread::Threads;
 
@@ -31,7 +31,7 @@ pub(crate) struct Changed {
 /// parents, which are `depth` levels below the root. `dones` are the pages of the level that got runs. If allocation
 /// fails, the tree is unchanged.
 #[inline(never)]
-pub(crate) fn change_level<D: WorkedPage>(
+pub(crate) fn change_level<D: UpdatedPage>(
     rt: &(impl Threads + Sync),
     crew: Crew,
     gate: &impl Gate,
@@ -55,7 +55,7 @@ pub(crate) fn change_level<D: WorkedPage>(
         mut groups,
     } = cut;
     draw_all(tree, &mut groups)?;
-    match tell_parents(
+    match update_parents(
         rt, crew, gate, alloc, settings, tree, &parents, freed, &groups,
     ) {
         Ok(parents) => Ok(Changed { groups, parents }),
@@ -67,7 +67,7 @@ pub(crate) fn change_level<D: WorkedPage>(
 }
 
 // Checks out these parents, and applies to each the terms of its groups. If allocation fails, the tree is unchanged.
-fn tell_parents(
+fn update_parents(
     rt: &(impl Threads + Sync),
     crew: Crew,
     gate: &impl Gate,
@@ -75,7 +75,7 @@ fn tell_parents(
     settings: &Settings,
     tree: &mut Tree<Global>,
     parents: &[(Pid, usize)],
-    freed: Vec<Vec<Name>>,
+    freed: Vec<Vec<Separator>>,
     groups: &[Rewritten],
 ) -> Result<Vec<TermDone>, AllocError>
     requires rising { AreRisingPids (pids_in_use tree.old.table) }
@@ -104,11 +104,11 @@ struct CutLevel {
     // Their parents, each with the number of its groups.
     parents: Vec<(Pid, usize)>,
     // The freed entries of each group.
-    freed: Vec<Vec<Name>>,
+    freed: Vec<Vec<Separator>>,
     groups: Vec<Rewritten>,
 }
 
-fn cut_level<D: WorkedPage>(
+fn cut_level<D: UpdatedPage>(
     rt: &(impl Threads + Sync),
     crew: Crew,
     gate: &impl Gate,

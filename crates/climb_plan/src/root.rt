@@ -15,7 +15,7 @@ use index_page::Page;
 use keys::{Key, Pid, Settings};
 use mapping::Tree;
 use mapping::laws::drawn_pids_get_places_that_are_away;
-use split_plan::{Name, index_pages};
+use split_plan::{Separator, index_pages};
 use std::alloc::{AllocError, Global};
 
 // The most levels that a tree may have.
@@ -29,7 +29,7 @@ pub(crate) fn grow(
     alloc: Global,
     settings: &Settings,
     tree: &mut Tree<Global>,
-    below: &[Name],
+    below: &[Separator],
     height: u32,
 ) -> Result<(Pid, u32), Refused>
     requires fan { 1 < settings.now.fan }
@@ -71,7 +71,7 @@ fn draw_names(
     alloc: Global,
     tree: &mut Tree<Global>,
     pages: &[Page<Global>],
-) -> Result<(Vec<u64>, Vec<Name>), AllocError>
+) -> Result<(Vec<u64>, Vec<Separator>), AllocError>
     requires rising { AreRisingPids (pids_in_use tree.old.table) }
     requires logs { IsOldWithoutPlace tree.old.table }
     ensures pids { IfOk result (λ drawn. drawn.0.items ≡
@@ -104,13 +104,17 @@ fn draw(tree: &mut Tree<Global>, count: usize) -> Result<Vec<u64>, AllocError>
 }
 
 // The entries of these pages under these page ids.
-fn names_of(alloc: Global, pages: &[Page<Global>], pids: &[u64]) -> Result<Vec<Name>, AllocError>
+fn names_of(
+    alloc: Global,
+    pages: &[Page<Global>],
+    pids: &[u64],
+) -> Result<Vec<Separator>, AllocError>
     requires { length pages.now ≡ length pids.now }
     ensures { IfOk result (λ names. names.items ≡ named_pages pages.now pids.now) }
 {
     let mut names = Vec::with_capacity(alloc, pages.len())?;
     for at in 0..pages.len() {
-        names.push_reserved(Name {
+        names.push_reserved(Separator {
             low: Key::from_bytes(alloc, pages[at].low())?,
             pid: Pid(pids[at]),
         });

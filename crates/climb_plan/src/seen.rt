@@ -3,7 +3,7 @@ ghost use Rattle.std.specs.Prelude.{◌≡◌, map, IfOk};
 ghost use Rattle.index_page.specs.Page.PageOfKind.{Leaf, Index};
 ghost use Rattle.climb_plan.specs.Changing.{page_seen};
 ghost use Rattle.climb_plan.specs.Rewriting.{seen_now, all_seen};
-ghost use Rattle.page_runs.specs.Worked.{is_thin_class, is_fat_class};
+ghost use Rattle.page_runs.specs.Updated.{is_thin_class, is_fat_class};
 ghost use Rattle.std.specs.Prelude.{◌||◌};
 
 use index_page::{Page, PageInMemory};
@@ -34,7 +34,7 @@ impl<'a> Seen<'a> {
     }
 
     /// Whether the page may have to be split or merged: it is thin or fat.
-    pub(crate) fn calls(&self) -> bool
+    pub(crate) fn needs_restructuring(&self) -> bool
         ensures { result ≡ (is_thin_class self.now.class || is_fat_class self.now.class) }
     {
         matches!(self.class, Class::Thin | Class::Fat)
@@ -42,10 +42,10 @@ impl<'a> Seen<'a> {
 }
 
 /// A page of either kind after its run.
-pub(crate) trait WorkedPage: Drop {
+pub(crate) trait UpdatedPage: Drop {
     ghost use Rattle.std.specs.Prelude.{◌≡◌};
     ghost use Rattle.index_page.specs.Page.{Page, PageOfKind};
-    ghost use Rattle.page_runs.specs.Worked.{Worked};
+    ghost use Rattle.page_runs.specs.Updated.{Updated};
     ghost use Rattle.climb_plan.specs.Changing.{SeenPage, page_seen};
     ghost use Rattle.climb_plan.specs.Level.{IsKind};
 
@@ -56,7 +56,7 @@ pub(crate) trait WorkedPage: Drop {
     ghost of: { Page Cells → PageOfKind };
 
     // The page after its run.
-    ghost outcome: { Self → Worked Cells };
+    ghost outcome: { Self → Updated Cells };
 
     // The page under its pid, its class, and whether it was replaced.
     ghost seen_page: { Self → SeenPage };
@@ -77,10 +77,10 @@ pub(crate) trait WorkedPage: Drop {
     fn room_for_rests(alloc: Global, count: usize) -> Vec<LeafRest>;
 
     // The parent's view is that of the page after its run.
-    ghost seen_as_worked: { (d : Self) → seen_page d ≡ page_seen of (outcome d) };
+    ghost seen_as_updated: { (d : Self) → seen_page d ≡ page_seen of (outcome d) };
 }
 
-impl WorkedPage for LeafDone {
+impl UpdatedPage for LeafDone {
     ghost use Rattle.std.specs.Prelude.{refl};
     ghost use Rattle.keys.specs.Bytes.{Bytes};
 
@@ -88,11 +88,11 @@ impl WorkedPage for LeafDone {
 
     ghost of = { Leaf };
 
-    ghost outcome = { λ d. d.made.worked };
+    ghost outcome = { λ d. d.made.updated };
 
-    ghost seen_page = { λ d. page_seen Leaf d.made.worked };
+    ghost seen_page = { λ d. page_seen Leaf d.made.updated };
 
-    ghost seen_as_worked = { λ d. refl };
+    ghost seen_as_updated = { λ d. refl };
 
     fn as_seen(&self) -> Seen<'_> {
         Seen {
@@ -115,7 +115,7 @@ impl WorkedPage for LeafDone {
     }
 }
 
-impl WorkedPage for TermDone {
+impl UpdatedPage for TermDone {
     ghost use Rattle.std.specs.Prelude.{ℕ, refl};
 
     ghost Cells = { ℕ };
@@ -126,7 +126,7 @@ impl WorkedPage for TermDone {
 
     ghost seen_page = { λ d. page_seen Index d.made };
 
-    ghost seen_as_worked = { λ d. refl };
+    ghost seen_as_updated = { λ d. refl };
 
     fn as_seen(&self) -> Seen<'_> {
         Seen {
@@ -149,7 +149,7 @@ impl WorkedPage for TermDone {
 }
 
 /// The pages as seen by their parents.
-pub(crate) fn see_all<D: WorkedPage>(
+pub(crate) fn see_all<D: UpdatedPage>(
     alloc: Global,
     dones: &[D],
 ) -> Result<Vec<Seen<'_>>, AllocError>

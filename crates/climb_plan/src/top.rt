@@ -14,19 +14,19 @@ use crate::change::{Rewritten, cut_all, draw_all, free_drawn};
 use crate::install::{install_all, put_home};
 use crate::refused::Refused;
 use crate::root::grow;
-use crate::seen::{Seen, WorkedPage, see_all};
+use crate::seen::{Seen, UpdatedPage, see_all};
 use crew::{Crew, Gate};
 use keys::{Key, Pid, Settings};
 use mapping::Tree;
 use page_runs::Class;
-use split_plan::Name;
+use split_plan::Separator;
 use std::alloc::{AllocError, Global};
 use std::thread::Threads;
 
 /// Climbs from the root, to which a run was applied and which is the only page of this list: splits it if it is fat,
 /// and adds levels above. On failure, the tree is unchanged, and the page is returned as it was given.
 #[inline(never)]
-pub(crate) fn climb_root<D: WorkedPage>(
+pub(crate) fn climb_root<D: UpdatedPage>(
     rt: &(impl Threads + Sync),
     crew: Crew,
     gate: &impl Gate,
@@ -60,7 +60,7 @@ pub(crate) fn climb_root<D: WorkedPage>(
 
 // Splits the root if it is fat, allocates the page ids of the new pages, and adds levels above them. Returns the group,
 // if the root was split, the new root and the number of levels. On failure, the tree is unchanged.
-fn change_root<D: WorkedPage>(
+fn change_root<D: UpdatedPage>(
     rt: &(impl Threads + Sync),
     crew: Crew,
     gate: &impl Gate,
@@ -93,7 +93,7 @@ fn change_root<D: WorkedPage>(
 }
 
 // The root as a group by itself, split, if it is fat.
-fn cut_root<D: WorkedPage>(
+fn cut_root<D: UpdatedPage>(
     rt: &(impl Threads + Sync),
     crew: Crew,
     gate: &impl Gate,

@@ -11,8 +11,8 @@ use Rattle.claim_board.specs.Passes.{pieces_of, drawn_by, drawn_by_all, IsPassOf
 use Rattle.claim_board.specs.declared.draw.Board.{Board}
 use Rattle.claim_board.specs.declared.draw.Pass.{Pass}
 use Rattle.crew.specs.declared.Work as Work
-use Rattle.crew.specs.declared.home.Worked.{Worked}
-use Rattle.crew.specs.declared.drawn.Hand.{Hand}
+use Rattle.crew.specs.declared.home.PieceResult.{PieceResult}
+use Rattle.crew.specs.declared.drawn.WorkerState.{WorkerState}
 use Rattle.crew.specs.Home.{placed, undrawn, origins, IsMade, home_origins, IsMadeHome, IsWorkedOf}
 use Rattle.crew.specs.Drawn.{held_in, AreAccepted, IsHandOf}
 use Rattle.crew.specs.Pieces.{jobs_of}
@@ -115,29 +115,29 @@ taken n new old e = ap (λ k. take k (new ++ drop (length new) old)) (sym e) ∙
 
 -- ---- places
 
-pub length-placed : {J D : Type 0} (homes : List (Option (Result (Vec D Global) (Vec J Global)))) (xs : List (Worked J D)) → length (placed homes xs) ≡ length homes
+pub length-placed : {J D : Type 0} (homes : List (Option (Result (Vec D Global) (Vec J Global)))) (xs : List (PieceResult J D)) → length (placed homes xs) ≡ length homes
 length-placed homes [] = refl
 length-placed homes (x ∷ xs) = length-placed (set homes x.number (Some x.made)) xs ∙ length-set homes x.number (Some x.made)
 
-pub placed_append : {J D : Type 0} (homes : List (Option (Result (Vec D Global) (Vec J Global)))) (xs ys : List (Worked J D)) → placed (placed homes xs) ys ≡ placed homes (xs ++ ys)
+pub placed_append : {J D : Type 0} (homes : List (Option (Result (Vec D Global) (Vec J Global)))) (xs ys : List (PieceResult J D)) → placed (placed homes xs) ys ≡ placed homes (xs ++ ys)
 placed_append homes [] ys = refl
 placed_append homes (x ∷ xs) ys = placed_append (set homes x.number (Some x.made)) xs ys
 
 module _ {W J D : Type 0} (g : Work.Ghosts W J D) where
   -- each of these fits its place
-  Fits : List (List g.Held) → Worked J D → Type 0
+  Fits : List (List g.Held) → PieceResult J D → Type 0
   Fits ts x = slice_get ts x.number ≡ Some (origins g x.made)
 
-  placed_made : (w : W) (homes : List (Option (Result (Vec D Global) (Vec J Global)))) (xs : List (Worked J D)) → AllByRecursion (IsMadeHome g w) homes
+  placed_made : (w : W) (homes : List (Option (Result (Vec D Global) (Vec J Global)))) (xs : List (PieceResult J D)) → AllByRecursion (IsMadeHome g w) homes
       → AllByRecursion (λ x. IsMade g w x.made) xs → AllByRecursion (IsMadeHome g w) (placed homes xs)
   placed_made w homes [] a b = a
   placed_made w homes (x ∷ xs) a b = placed_made w (set homes x.number (Some x.made)) xs (all_set (IsMadeHome g w) homes x.number (Some x.made) a b.0) b.1
 
   -- the place n is among the numbers, or it is filled already
-  Filled : List (List g.Held) → List (Worked J D) → List (Option (Result (Vec D Global) (Vec J Global))) → ℕ → Type 0
+  Filled : List (List g.Held) → List (PieceResult J D) → List (Option (Result (Vec D Global) (Vec J Global))) → ℕ → Type 0
   Filled ts xs homes n = (0 < times n (map (λ x. x.number) xs)) ⊎ (slice_get (map (home_origins g) homes) n ≡ slice_get ts n)
 
-  filled_next : (ts : List (List g.Held)) (x : Worked J D) (xs : List (Worked J D)) (homes : List (Option (Result (Vec D Global) (Vec J Global)))) (n : ℕ) (b : Bool) → (x.number == n) ≡ b
+  filled_next : (ts : List (List g.Held)) (x : PieceResult J D) (xs : List (PieceResult J D)) (homes : List (Option (Result (Vec D Global) (Vec J Global)))) (n : ℕ) (b : Bool) → (x.number == n) ≡ b
       → length homes ≡ length ts → slice_get ts x.number ≡ Some (origins g x.made)
       → (0 < (if b then 1 else 0) + times n (map (λ y. y.number) xs)) ⊎ (slice_get (map (home_origins g) homes) n ≡ slice_get ts n)
       → (0 < times n (map (λ y. y.number) xs)) ⊎ (slice_get (map (home_origins g) (set homes x.number (Some x.made))) n ≡ slice_get ts n)
@@ -149,7 +149,7 @@ module _ {W J D : Type 0} (g : Work.Ghosts W J D) where
   filled_next ts x xs homes n false e len fits (inl more) = inl (omega arith)
   filled_next ts x xs homes n false e len fits (inr same) = inr (set_else (home_origins g) homes x.number n (Some x.made) e ∙ same)
 
-  placed_right : (ts : List (List g.Held)) (xs : List (Worked J D)) (homes : List (Option (Result (Vec D Global) (Vec J Global)))) → length homes ≡ length ts
+  placed_right : (ts : List (List g.Held)) (xs : List (PieceResult J D)) (homes : List (Option (Result (Vec D Global) (Vec J Global)))) → length homes ≡ length ts
       → AllByRecursion (λ x. slice_get ts x.number ≡ Some (origins g x.made)) xs
       → ((n : ℕ) → n < length ts → (0 < times n (map (λ x. x.number) xs)) ⊎ (slice_get (map (home_origins g) homes) n ≡ slice_get ts n))
       → map (home_origins g) (placed homes xs) ≡ ts
@@ -185,12 +185,12 @@ module _ {W J D : Type 0} (g : Work.Ghosts W J D) where
 
   -- ---- the hands
 
-  hands_worked : (w : W) (board : Board (Vec J Global)) (hands : List (Hand J D)) → AllByRecursion (IsHandOf g w board) hands
+  hands_worked : (w : W) (board : Board (Vec J Global)) (hands : List (WorkerState J D)) → AllByRecursion (IsHandOf g w board) hands
       → AllByRecursion (IsWorkedOf g w (pieces_of board)) (flat_map (λ hand. hand.worked.items) hands)
   hands_worked w board [] a = tt
   hands_worked w board (hand ∷ hands) a = all_append (IsWorkedOf g w (pieces_of board)) hand.worked.items _ a.0.worked (hands_worked w board hands a.1)
 
-  hands_numbers : (w : W) (board : Board (Vec J Global)) (hands : List (Hand J D)) → AllByRecursion (IsHandOf g w board) hands
+  hands_numbers : (w : W) (board : Board (Vec J Global)) (hands : List (WorkerState J D)) → AllByRecursion (IsHandOf g w board) hands
       → map (λ x. x.number) (flat_map (λ hand. hand.worked.items) hands) ≡ drawn_by_all (map (λ hand. hand.pass) hands)
   hands_numbers w board [] a = refl
   hands_numbers w board (hand ∷ hands) a =
@@ -198,7 +198,7 @@ module _ {W J D : Type 0} (g : Work.Ghosts W J D) where
       ∙ ap (λ xs. xs ++ map (λ x. x.number) (flat_map (λ hand. hand.worked.items) hands)) a.0.numbers
       ∙ ap (λ xs. drawn_by hand.pass ++ xs) (hands_numbers w board hands a.1)
 
-  splits : (w : W) (pieces : List (Vec J Global)) (xs : List (Worked J D)) → AllByRecursion (IsWorkedOf g w pieces) xs
+  splits : (w : W) (pieces : List (Vec J Global)) (xs : List (PieceResult J D)) → AllByRecursion (IsWorkedOf g w pieces) xs
       → AllByRecursion (λ x. slice_get (map (held_in g) pieces) x.number ≡ Some (origins g x.made)) xs × AllByRecursion (λ x. IsMade g w x.made) xs
   splits w pieces [] a = (tt, tt)
   splits w pieces (x ∷ xs) a = let h = splits w pieces xs a.1 in ((a.0.0, h.0), (a.0.1, h.1))
@@ -215,7 +215,7 @@ module _ {W J D : Type 0} (g : Work.Ghosts W J D) where
 
   -- ---- hands that are dealt
 
-  hand_of : (w : W) (board : Board (Vec J Global)) (hands : List (Hand J D)) (passes : List (Pass (Vec J Global))) → map (λ hand. hand.pass) hands ≡ passes
+  hand_of : (w : W) (board : Board (Vec J Global)) (hands : List (WorkerState J D)) (passes : List (Pass (Vec J Global))) → map (λ hand. hand.pass) hands ≡ passes
       → AllByRecursion (λ hand. hand.worked.items ≡ []) hands → AllByRecursion (IsNewPassOf board) passes → AllByRecursion (IsHandOf g w board) hands
   hand_of w board [] passes e none new = tt
   hand_of w board (hand ∷ hands) passes e none new =
@@ -228,12 +228,12 @@ module _ {W J D : Type 0} (g : Work.Ghosts W J D) where
         hand_of w board hands (map (λ hand. hand.pass) hands) refl none.1 is.1,
       )
 
-  pub dealt : (w : W) (board : Board (Vec J Global)) (hands : List (Hand J D)) (passes : List (Pass (Vec J Global))) → map (λ hand. hand.pass) hands ≡ reverse passes
+  pub dealt : (w : W) (board : Board (Vec J Global)) (hands : List (WorkerState J D)) (passes : List (Pass (Vec J Global))) → map (λ hand. hand.pass) hands ≡ reverse passes
       → AllByRecursion (λ hand. hand.worked.items ≡ []) hands → All (IsNewPassOf board) passes → AllByRecursion (IsHandOf g w board) hands
   dealt w board hands passes e none new = hand_of w board hands (reverse passes) e none (all_reverse (IsNewPassOf board) passes (by_recursion (IsNewPassOf board) passes new))
 
   -- their passes are those of the board
-  pub passes_of : (w : W) (board : Board (Vec J Global)) (hands : List (Hand J D)) (passes : List (Pass (Vec J Global))) → passes ≡ map (λ hand. hand.pass) hands
+  pub passes_of : (w : W) (board : Board (Vec J Global)) (hands : List (WorkerState J D)) (passes : List (Pass (Vec J Global))) → passes ≡ map (λ hand. hand.pass) hands
       → AllByRecursion (IsHandOf g w board) hands → All (IsPassOf board) passes
   passes_of w board hands passes e are =
       subst (All (IsPassOf board)) (sym e)
@@ -259,7 +259,7 @@ module _ {W J D : Type 0} (g : Work.Ghosts W J D) where
 
   -- ---- all places are filled
 
-  module _ (w : W) (board : Board (Vec J Global)) (hands : List (Hand J D)) (left : List (Vec J Global)) (are : AllByRecursion (IsHandOf g w board) hands)
+  module _ (w : W) (board : Board (Vec J Global)) (hands : List (WorkerState J D)) (left : List (Vec J Global)) (are : AllByRecursion (IsHandOf g w board) hands)
       (closes : Closes (pieces_of board) (map (λ hand. hand.pass) hands) left) where
     pub left_length : length (drawn_by_all (map (λ hand. hand.pass) hands)) + length left ≡ length (pieces_of board)
     left_length =

@@ -5,7 +5,7 @@ use Rattle.std.proofs.lemmas.List.{map-set, map_push, map-append, length-map}
 use Rattle.std.proofs.lemmas.Option.{slice_get-map}
 use Rattle.crew.specs.declared.machine.Event.{Event}
 use Rattle.crew.specs.declared.machine.Event.TheVariants.{Draw, Work, Back, Home}
-use Rattle.crew.specs.Round.{Fate, Hand, State, numbered, numbered_pieces, fate_of, draw_by, work_by, home_by, event_of, worker_of, after_event, after_events, begun, round}
+use Rattle.crew.specs.Round.{Fate, WorkerState, State, numbered, numbered_pieces, fate_of, draw_by, work_by, home_by, event_of, worker_of, after_event, after_events, begun, round}
 use Rattle.crew.specs.Round.Fate.{Made, Kept}
 use Rattle.crew.specs.Marks.{mark_of, mark_at, forgotten}
 
@@ -33,7 +33,7 @@ module _ {J D : Type 0} where
   abbrev forget_fates : List (ℕ × Fate J D) → List (ℕ × Fate (Unit {0}) (Unit {0}))
   forget_fates noted = map (λ x. (x.0, forget_fate x.1)) noted
 
-  abbrev forget_hand : Hand J D → Hand (Unit {0}) (Unit {0})
+  abbrev forget_hand : WorkerState J D → WorkerState (Unit {0}) (Unit {0})
   forget_hand hand = record { unworked = forget_jobs hand.unworked; worked = forget_fates hand.worked }
 
   abbrev forget : State J D → State (Unit {0}) (Unit {0})
@@ -73,7 +73,7 @@ module _ {J D : Type 0} where
   forget_home s w [] worked (piece ∷ rest) = refl
   forget_home s w (job ∷ jobs) worked board = refl
 
-  forget_event : (made : J → D) (s : State J D) (hand : Option (Hand J D)) (event : Event) → forget (event_of made s hand event) ≡ event_of (λ u. u) (forget s) (option_map forget_hand hand) event
+  forget_event : (made : J → D) (s : State J D) (hand : Option (WorkerState J D)) (event : Event) → forget (event_of made s hand event) ≡ event_of (λ u. u) (forget s) (option_map forget_hand hand) event
   forget_event made s None event = refl
   forget_event made s (Some hand) (Draw w) = forget_draw s w hand.unworked hand.worked s.board
   forget_event made s (Some hand) (Work w) = forget_work s w hand.unworked hand.worked (λ j. Made (made j)) Made (λ j. refl)

@@ -9,7 +9,7 @@ use Rattle.std.proofs.lemmas.List.Sums.{sum_by-append}
 use Rattle.std.proofs.lemmas.Option.{same_Some}
 use Rattle.crew.specs.declared.machine.Event.{Event}
 use Rattle.crew.specs.declared.machine.Event.TheVariants.{Draw, Work, Back, Home}
-use Rattle.crew.specs.Round.{Fate, Hand, State, joined, numbered, numbered_pieces, draw_by, work_by, home_by, event_of, worker_of, after_event, after_events, begun, round}
+use Rattle.crew.specs.Round.{Fate, WorkerState, State, joined, numbered, numbered_pieces, draw_by, work_by, home_by, event_of, worker_of, after_event, after_events, begun, round}
 use Rattle.crew.specs.Round.Fate.{Made, Kept}
 use Rattle.crew.specs.SoundRound.{numbers, numbers_anywhere}
 
@@ -76,14 +76,14 @@ abbrev on_board : {X : Type 0} → ℕ → List (List (ℕ × X)) → ℕ
 on_board n board = count n (flat_map numbers board)
 
 module _ {J D : Type 0} where
-  abbrev hand_numbers : Hand J D → List ℕ
+  abbrev hand_numbers : WorkerState J D → List ℕ
   hand_numbers hand = numbers hand.unworked ++ numbers hand.worked
 
   -- how often n occurs at each of the three places
-  abbrev in_hands : ℕ → List (Hand J D) → ℕ
+  abbrev in_hands : ℕ → List (WorkerState J D) → ℕ
   in_hands n hands = count n (flat_map hand_numbers hands)
 
-  abbrev in_hand : ℕ → Hand J D → ℕ
+  abbrev in_hand : ℕ → WorkerState J D → ℕ
   in_hand n hand = count n (hand_numbers hand)
 
   abbrev at_home : ℕ → List (ℕ × Fate J D) → ℕ
@@ -99,7 +99,7 @@ module _ {J D : Type 0} where
 
   -- ---- a hand that changes
 
-  hand_changes : (n : ℕ) (hands : List (Hand J D)) (w : ℕ) (old new : Hand J D) → slice_get hands w ≡ Some old
+  hand_changes : (n : ℕ) (hands : List (WorkerState J D)) (w : ℕ) (old new : WorkerState J D) → slice_get hands w ≡ Some old
       → in_hands n (set hands w new) + in_hand n old ≡ in_hands n hands + in_hand n new
   hand_changes n [] w old new e = absurd (cc)
   hand_changes n (hand ∷ hands) zero old new e =
@@ -152,7 +152,7 @@ module _ {J D : Type 0} where
   home_keeps n s w [] worked (piece ∷ rest) held lies = refl
   home_keeps n s w (job ∷ jobs) worked board held lies = refl
 
-  event_keeps : (n : ℕ) (made : J → D) (s : State J D) (hand : Option (Hand J D)) (event : Event) → slice_get s.hands (worker_of event) ≡ hand
+  event_keeps : (n : ℕ) (made : J → D) (s : State J D) (hand : Option (WorkerState J D)) (event : Event) → slice_get s.hands (worker_of event) ≡ hand
       → anywhere n (event_of made s hand event) ≡ anywhere n s
   event_keeps n made s None event held = refl
   event_keeps n made s (Some hand) (Draw w) held = draw_keeps n s w hand.unworked hand.worked s.board held refl

@@ -6,7 +6,7 @@ use Rattle.std.specs.declared.alloc.Global.{Global}
 use Rattle.std.specs.List.{AllByRecursion, range_with_len}
 use Rattle.crew.specs.declared.machine.Event.{Event}
 use Rattle.crew.specs.declared.machine.Event.TheVariants.{Draw, Work, Back, Home}
-use Rattle.crew.specs.Round.{Fate, Hand, State, joined, numbered, numbered_pieces, fate_of, draw_by, work_by, home_by, event_of, worker_of, after_event, after_events, begun, round, AreHome}
+use Rattle.crew.specs.Round.{Fate, WorkerState, State, joined, numbered, numbered_pieces, fate_of, draw_by, work_by, home_by, event_of, worker_of, after_event, after_events, begun, round, AreHome}
 use Rattle.crew.specs.Round.Fate.{Made, Kept}
 
 -- ---- lists
@@ -43,7 +43,7 @@ module _ {J D : Type 0} (made : J → D) (jobs : List J) where
   IsFate n (Made d) = (j : J) × (slice_get jobs n ≡ Some j) × (d ≡ made j)
   IsFate n (Kept j) = slice_get jobs n ≡ Some j
 
-  abbrev pub IsHand : Hand J D → Type 0
+  abbrev pub IsHand : WorkerState J D → Type 0
   IsHand h = AllByRecursion IsJob h.unworked × AllByRecursion (λ x. IsFate x.0 x.1) h.worked
 
   pub record IsTrue (s : State J D) : Type 0 where
@@ -101,7 +101,7 @@ module _ {J D : Type 0} (made : J → D) (jobs : List J) where
   home_true s w [] worked (piece ∷ rest) t f = t
   home_true s w (job ∷ js) worked board t f = t
 
-  event_true : (s : State J D) (hand : Option (Hand J D)) (event : Event) → slice_get s.hands (worker_of event) ≡ hand → IsTrue s → IsTrue (event_of made s hand event)
+  event_true : (s : State J D) (hand : Option (WorkerState J D)) (event : Event) → slice_get s.hands (worker_of event) ≡ hand → IsTrue s → IsTrue (event_of made s hand event)
   event_true s None event e t = t
   event_true s (Some hand) (Draw w) e t = let h = all_at IsHand s.hands w hand t.hands e in draw_true s w hand.unworked hand.worked s.board t refl h.1
   event_true s (Some hand) (Work w) e t =

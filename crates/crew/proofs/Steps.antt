@@ -12,14 +12,14 @@ use Rattle.crew.specs.declared.machine.Event.{Event}
 use Rattle.crew.specs.declared.machine.Event.TheVariants.{Draw, Work, Back, Home}
 use Rattle.crew.specs.declared.machine.Mark.{Mark}
 use Rattle.crew.specs.declared.machine.Mark.TheVariants.{Made as MarkMade, Back as MarkBack}
-use Rattle.crew.specs.declared.progress.Hand.{Hand as HandByNumber}
+use Rattle.crew.specs.declared.progress.WorkerState.{WorkerState as WorkerStateByNumber}
 use Rattle.crew.specs.declared.progress.Progress.{Progress}
-use Rattle.crew.specs.Round.{Fate, Hand, State, numbered, draw_by, work_by, home_by, event_of, worker_of, after_event}
+use Rattle.crew.specs.Round.{Fate, WorkerState, State, numbered, draw_by, work_by, home_by, event_of, worker_of, after_event}
 use Rattle.crew.specs.Round.Fate.{Made, Kept}
 use Rattle.crew.specs.Marks.{jobs_in, fate_by, fates_by, hand_by, state_by, event_by}
 
 -- where the jobs are by these three lists
-abbrev pub state_of : List (Range ℕ) → List HandByNumber → List (ℕ × Mark) → State (Unit {0}) (Unit {0})
+abbrev pub state_of : List (Range ℕ) → List WorkerStateByNumber → List (ℕ × Mark) → State (Unit {0}) (Unit {0})
 state_of board hands home = record { board = map jobs_in board; hands = map hand_by hands; home = fates_by home }
 
 abbrev after : State (Unit {0}) (Unit {0}) → Event → State (Unit {0}) (Unit {0})
@@ -63,7 +63,7 @@ home_waits s w [] worked [] h = absurd (omega arith)
 home_waits s w [] worked (piece ∷ rest) h = refl
 home_waits s w (job ∷ jobs) worked board h = refl
 
-waits_from : (p : Progress) (w : ℕ) (hand : Option (Hand (Unit {0}) (Unit {0}))) → 0 < length p.board.items → event_of (λ u. u) (state_by p) hand (Home w) ≡ state_by p
+waits_from : (p : Progress) (w : ℕ) (hand : Option (WorkerState (Unit {0}) (Unit {0}))) → 0 < length p.board.items → event_of (λ u. u) (state_by p) hand (Home w) ≡ state_by p
 waits_from p w None h = refl
 waits_from p w (Some hand) h = home_waits (state_by p) w hand.unworked hand.worked p.board.items h
 
@@ -72,9 +72,9 @@ brings_none p w h = sym (waits_from p w (slice_get (map hand_by p.hands.items) w
 
 -- ---- an event of a worker who holds this
 
-module _ (p : Progress) (w : ℕ) (hand : HandByNumber) (there : w < length p.hands.items) (is : hand ≡ get_or p.hands.items w hand) where
+module _ (p : Progress) (w : ℕ) (hand : WorkerStateByNumber) (there : w < length p.hands.items) (is : hand ≡ get_or p.hands.items w hand) where
   -- the hands, where this worker's becomes that one
-  abbrev pub hands_with : HandByNumber → List HandByNumber
+  abbrev pub hands_with : WorkerStateByNumber → List WorkerStateByNumber
   hands_with new = set p.hands.items w new
 
   held : slice_get (map hand_by p.hands.items) w ≡ Some (hand_by hand)
@@ -130,7 +130,7 @@ module _ (p : Progress) (w : ℕ) (hand : HandByNumber) (there : w < length p.ha
       → state_of p.board.items (hands_with (record { unworked = record { start = hand.unworked.start + 1; end = hand.unworked.end }; worked = worked })) p.home.items
       ≡ after (state_by p) (event_by mark w)
   works mark worked h noted =
-      let new : HandByNumber = record { unworked = record { start = hand.unworked.start + 1; end = hand.unworked.end }; worked = worked } in
+      let new : WorkerStateByNumber = record { unworked = record { start = hand.unworked.start + 1; end = hand.unworked.end }; worked = worked } in
       let fates : fates_by worked.items ≡ fates_by hand.worked.items ++ (hand.unworked.start, fate_by mark) ∷ [] =
       ap fates_by noted ∙ map_push (λ x. (x.0, fate_by x.1)) hand.worked.items (hand.unworked.start, mark) in
       ap (λ hands. record { board = map jobs_in p.board.items; hands = hands; home = fates_by p.home.items })
@@ -147,7 +147,7 @@ module _ (p : Progress) (w : ℕ) (hand : HandByNumber) (there : w < length p.ha
       → home ≡ p.home.items ++ hand.worked.items → worked.items ≡ []
       → state_of p.board.items (hands_with (record { unworked = hand.unworked; worked = worked })) home ≡ after (state_by p) (Home w)
   brings home worked none h all emptied =
-      let new : HandByNumber = record { unworked = hand.unworked; worked = worked } in
+      let new : WorkerStateByNumber = record { unworked = hand.unworked; worked = worked } in
       let idle : hand_by new ≡ record { unworked = []; worked = [] } =
       ap (λ jobs. record { unworked = jobs; worked = fates_by worked.items }) (jobs_in_none hand.unworked h)
       ∙ ap (λ marks. record { unworked = []; worked = fates_by marks }) emptied in

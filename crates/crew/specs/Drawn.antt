@@ -5,7 +5,7 @@ use Rattle.std.specs.declared.alloc.Global.{Global}
 use Rattle.claim_board.specs.Passes.{pieces_of, drawn_by, IsPassOf}
 use Rattle.claim_board.specs.declared.draw.Board.{Board}
 use Rattle.crew.specs.declared.Work as Work
-use Rattle.crew.specs.declared.drawn.Hand.{Hand}
+use Rattle.crew.specs.declared.drawn.WorkerState.{WorkerState}
 use Rattle.crew.specs.Home.{IsWorkedOf}
 
 module _ {W J D : Type 0} (g : Work.Ghosts W J D) where
@@ -18,7 +18,7 @@ module _ {W J D : Type 0} (g : Work.Ghosts W J D) where
   AreAccepted w pieces = AllByRecursion (λ piece. All (λ job. g.accepts w (g.held job)) piece.items) pieces
 
   -- a worker's state: a pass of the board, and the result of each piece that it claimed
-  pub record IsHandOf (w : W) (board : Board (Vec J Global)) (hand : Hand J D) : Type 0 where
+  pub record IsHandOf (w : W) (board : Board (Vec J Global)) (hand : WorkerState J D) : Type 0 where
     pub pass : IsPassOf board hand.pass
     pub numbers : map (λ x. x.number) hand.worked.items ≡ drawn_by hand.pass
     pub worked : AllByRecursion (IsWorkedOf g w (pieces_of board)) hand.worked.items

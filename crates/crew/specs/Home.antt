@@ -2,16 +2,16 @@
 use Rattle.std.specs.Prelude.{◌≡◌, ℕ, ◌+◌, ⊤, List, [], ◌∷◌, map, set, slice_get, Vec, Option, Some, None, Result, Ok, Err}
 use Rattle.std.specs.declared.alloc.Global.{Global}
 use Rattle.crew.specs.declared.Work as Work
-use Rattle.crew.specs.declared.home.Worked.{Worked}
+use Rattle.crew.specs.declared.home.PieceResult.{PieceResult}
 
 module _ {J D : Type 0} where
   -- these results, each at the place with its number
-  abbrev pub placed : List (Option (Result (Vec D Global) (Vec J Global))) → List (Worked J D) → List (Option (Result (Vec D Global) (Vec J Global)))
+  abbrev pub placed : List (Option (Result (Vec D Global) (Vec J Global))) → List (PieceResult J D) → List (Option (Result (Vec D Global) (Vec J Global)))
   placed homes [] = homes
   placed homes (x ∷ xs) = placed (set homes x.number (Some x.made)) xs
 
   -- unclaimed pieces, from this number on
-  abbrev pub undrawn : ℕ → List (Vec J Global) → List (Worked J D)
+  abbrev pub undrawn : ℕ → List (Vec J Global) → List (PieceResult J D)
   undrawn n [] = []
   undrawn n (piece ∷ pieces) = record { number = n; made = Err piece } ∷ undrawn (n + 1) pieces
 
@@ -36,5 +36,5 @@ module _ {W J D : Type 0} (g : Work.Ghosts W J D) where
   IsMadeHome w (Some made) = IsMade w made
 
   -- this is a correct result of the piece with its number
-  abbrev pub IsWorkedOf : W → List (Vec J Global) → Worked J D → Type 0
+  abbrev pub IsWorkedOf : W → List (Vec J Global) → PieceResult J D → Type 0
   IsWorkedOf w pieces x = (slice_get (map (λ piece. map g.held piece.items) pieces) x.number ≡ Some (origins x.made)) × IsMade w x.made

@@ -5,9 +5,9 @@ use Rattle.crew.specs.declared.machine.Event.{Event}
 use Rattle.crew.specs.declared.machine.Event.TheVariants.{Work, Back}
 use Rattle.crew.specs.declared.machine.Mark.{Mark}
 use Rattle.crew.specs.declared.machine.Mark.TheVariants.{Made as MarkMade, Back as MarkBack}
-use Rattle.crew.specs.declared.progress.Hand.{Hand as HandByNumber}
+use Rattle.crew.specs.declared.progress.WorkerState.{WorkerState as WorkerStateByNumber}
 use Rattle.crew.specs.declared.progress.Progress.{Progress}
-use Rattle.crew.specs.Round.{Fate, Hand, State, numbered, fate_of}
+use Rattle.crew.specs.Round.{Fate, WorkerState, State, numbered, fate_of}
 use Rattle.crew.specs.Round.Fate.{Made, Kept}
 
 -- ---- marks
@@ -42,7 +42,7 @@ abbrev pub fates_by : List (ℕ × Mark) → List (ℕ × Fate (Unit {0}) (Unit 
 fates_by marks = map (λ x. (x.0, fate_by x.1)) marks
 
 -- the state of a worker
-abbrev pub hand_by : HandByNumber → Hand (Unit {0}) (Unit {0})
+abbrev pub hand_by : WorkerStateByNumber → WorkerState (Unit {0}) (Unit {0})
 hand_by hand = record { unworked = jobs_in hand.unworked; worked = fates_by hand.worked.items }
 
 -- the state of a round

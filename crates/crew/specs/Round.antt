@@ -10,14 +10,14 @@ pub data Fate (J D : Type 0) : Type 0 where
   Kept : J → Fate J D
 
 -- the state of a worker: jobs that it still has to do, and results of others, each with its number
-pub record Hand (J D : Type 0) : Type 0 where
+pub record WorkerState (J D : Type 0) : Type 0 where
   pub unworked : List (ℕ × J)
   pub worked : List (ℕ × Fate J D)
 
 -- the unclaimed pieces, in order; the state of each worker; and the collected results
 pub record State (J D : Type 0) : Type 0 where
   pub board : List (List (ℕ × J))
-  pub hands : List (Hand J D)
+  pub hands : List (WorkerState J D)
   pub home : List (ℕ × Fate J D)
 
 -- ---- jobs and their numbers
@@ -51,7 +51,7 @@ worker_of (Back w) = w
 worker_of (Home w) = w
 
 module _ {J D : Type 0} where
-  abbrev pub with_hand : State J D → ℕ → Hand J D → State J D
+  abbrev pub with_hand : State J D → ℕ → WorkerState J D → State J D
   with_hand s w hand = record { board = s.board; hands = set s.hands w hand; home = s.home }
 
   -- a worker without remaining jobs claims the whole next piece
@@ -73,7 +73,7 @@ module _ {J D : Type 0} where
   home_by s w (job ∷ jobs) worked board = s
 
   -- an event of worker w, which has this state
-  abbrev pub event_of : (J → D) → State J D → Option (Hand J D) → Event → State J D
+  abbrev pub event_of : (J → D) → State J D → Option (WorkerState J D) → Event → State J D
   event_of made s None event = s
   event_of made s (Some hand) (Draw w) = draw_by s w hand.unworked hand.worked s.board
   event_of made s (Some hand) (Work w) = work_by s w hand.unworked hand.worked (λ j. Made (made j))

@@ -1,7 +1,7 @@
 -- The invariant of a round of work after any events.
 use Rattle.std.specs.Prelude.{◌≡◌, ℕ, ◌<◌, ◌==◌, nat_lt, if◌then◌else◌, List, ◌++◌, map, length, Some, slice_get}
 use Rattle.std.specs.List.{All, count_by, flat_map}
-use Rattle.crew.specs.Round.{Fate, Hand, State, fate_of, AreHome}
+use Rattle.crew.specs.Round.{Fate, WorkerState, State, fate_of, AreHome}
 use Rattle.crew.specs.Round.Fate.{Made, Kept}
 
 -- the numbers of these jobs or results
@@ -12,7 +12,7 @@ module _ {J D : Type 0} where
   -- the numbers on the board, with the workers (of remaining jobs and of results), and collected, all together
   abbrev pub numbers_anywhere : State J D → List ℕ
   numbers_anywhere s =
-      (flat_map numbers s.board ++ flat_map (λ (hand : Hand J D). numbers hand.unworked ++ numbers hand.worked) s.hands) ++ numbers s.home
+      (flat_map numbers s.board ++ flat_map (λ (hand : WorkerState J D). numbers hand.unworked ++ numbers hand.worked) s.hands) ++ numbers s.home
 
   -- the result is the output of the job with this number, or that job unchanged
   abbrev pub IsFateOf : (J → D) → List J → ℕ → Fate J D → Type 0

@@ -9,7 +9,7 @@ ghost use Rattle.crew.specs.Home.{placed, home_origins, IsMadeHome};
 
 use crate::Work;
 use crate::entry::Gate;
-use crate::home::{Home, Worked, gather, place_all, place_left};
+use crate::home::{Home, PieceResult, gather, place_all, place_left};
 use crate::in_turn::work_in_turn;
 use crate::pieces::{cut, put_together};
 use claim_board::{Board, Pass};
@@ -19,9 +19,9 @@ use std::thread::Threads;
 
 /// The state of a worker: its pass for the board, and the results of the pieces that it claimed.
 #[derive(Drop)]
-pub(crate) struct Hand<J, D> {
+pub(crate) struct WorkerState<J, D> {
     pub(crate) pass: Pass<Vec<J>>,
-    pub(crate) worked: Vec<Worked<J, D>>,
+    pub(crate) worked: Vec<PieceResult<J, D>>,
 }
 
 /// Does the jobs in pieces of `grain` jobs, which `workers` workers claim, the caller among them. The result is that of
@@ -110,7 +110,7 @@ fn no_homes<J: Drop, D: Drop>(alloc: Global, count: usize) -> Result<Vec<Home<J,
 fn deal<J: Drop, D: Drop>(
     alloc: Global,
     passes: &mut Vec<Pass<Vec<J>>>,
-    hands: &mut Vec<Hand<J, D>>,
+    hands: &mut Vec<WorkerState<J, D>>,
 )
     requires room { (hands.old.items ≡ []) × (length passes.old.items ≤ vec_capacity hands.old) }
     ensures passes { map (λ hand. hand.pass) hands.new.items ≡ reverse passes.old.items }
@@ -119,7 +119,7 @@ fn deal<J: Drop, D: Drop>(
     ensures same { vec_capacity passes.new ≡ vec_capacity passes.old }
 {
     while let Some(pass) = passes.pop() {
-        hands.push_reserved(Hand {
+        hands.push_reserved(WorkerState {
             pass,
             worked: Vec::new(alloc),
         });
@@ -134,7 +134,7 @@ fn draw_all<R: Threads + Sync, G: Gate, W: Work>(
     gate: &G,
     grain: usize,
     work: &W,
-    hands: &mut Vec<Hand<W::Job, W::Done>>,
+    hands: &mut Vec<WorkerState<W::Job, W::Done>>,
 )
     requires some { 0 < length hands.old.items }
     requires grain { 0 < grain }
@@ -148,7 +148,7 @@ fn draw_all<R: Threads + Sync, G: Gate, W: Work>(
         rt,
         hands.as_mut_slice(),
         count,
-        &|_: usize, hand: &mut Hand<W::Job, W::Done>|
+        &|_: usize, hand: &mut WorkerState<W::Job, W::Done>|
             requires { (0 < grain) × AreAccepted W.Work work.now (pieces_of board.now)
                 × IsHandOf W.Work work.now board.now hand.now }
             ensures { IsHandOf W.Work work.entry.now board.entry.now hand.exit.now }
@@ -163,7 +163,7 @@ fn draw_and_work<G: Gate, W: Work>(
     gate: &G,
     grain: usize,
     work: &W,
-    hand: &mut Hand<W::Job, W::Done>,
+    hand: &mut WorkerState<W::Job, W::Done>,
 )
     requires grain { 0 < grain }
     requires accepted { AreAccepted W.Work work.now (pieces_of board.now) }
@@ -179,13 +179,13 @@ fn draw_and_work<G: Gate, W: Work>(
         };
         let (number, piece) = found;
         let made = work_in_turn(gate, number, grain, work, piece);
-        hand.worked.push_reserved(Worked { number, made });
+        hand.worked.push_reserved(PieceResult { number, made });
     }
 }
 
 // Puts the workers' results at their pieces' places, and their passes into the list, which has room for them.
 fn bring_home<J: Drop, D: Drop>(
-    hands: Vec<Hand<J, D>>,
+    hands: Vec<WorkerState<J, D>>,
     passes: &mut Vec<Pass<Vec<J>>>,
     homes: &mut Vec<Home<J, D>>,
 )
@@ -195,7 +195,7 @@ fn bring_home<J: Drop, D: Drop>(
         ≡ placed homes.old.items (flat_map (λ hand. hand.worked.items) hands.items) }
 {
     for hand in hands {
-        let Hand { pass, worked } = hand;
+        let WorkerState { pass, worked } = hand;
         passes.push_reserved(pass);
         place_all(homes, worked);
     }

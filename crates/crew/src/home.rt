@@ -8,7 +8,7 @@ use crate::in_turn::undo_made;
 
 /// The result of the piece with this number: the outputs of its jobs, or the unchanged jobs.
 #[derive(Drop)]
-pub(crate) struct Worked<J, D> {
+pub(crate) struct PieceResult<J, D> {
     pub(crate) number: u64,
     pub(crate) made: Result<Vec<D>, Vec<J>>,
 }
@@ -16,17 +16,17 @@ pub(crate) struct Worked<J, D> {
 /// The result of a piece, once it is collected.
 pub(crate) type Home<J, D> = Option<Result<Vec<D>, Vec<J>>>;
 
-fn place<J: Drop, D: Drop>(homes: &mut Vec<Home<J, D>>, worked: Worked<J, D>)
+fn place<J: Drop, D: Drop>(homes: &mut Vec<Home<J, D>>, worked: PieceResult<J, D>)
     ensures { homes.new.items ≡ placed homes.old.items (worked ∷ []) }
 {
-    let Worked { number, made } = worked;
+    let PieceResult { number, made } = worked;
     let index = number as usize;
     if index < homes.len() {
         homes[index] = Some(made);
     }
 }
 
-pub(crate) fn place_all<J: Drop, D: Drop>(homes: &mut Vec<Home<J, D>>, all: Vec<Worked<J, D>>)
+pub(crate) fn place_all<J: Drop, D: Drop>(homes: &mut Vec<Home<J, D>>, all: Vec<PieceResult<J, D>>)
     ensures { homes.new.items ≡ placed homes.old.items all.items }
 {
     for worked in all {
@@ -46,7 +46,7 @@ pub(crate) fn place_left<J: Drop, D: Drop>(
     let mut number = from;
     for piece in left {
         let made = Err(piece);
-        place(homes, Worked { number, made });
+        place(homes, PieceResult { number, made });
         number += 1;
     }
 }

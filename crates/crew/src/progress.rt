@@ -11,7 +11,7 @@ use std::ops::Range;
 
 /// The state of a worker.
 #[derive(Drop)]
-pub(crate) struct Hand {
+pub(crate) struct WorkerState {
     /// The jobs that it still has to do.
     unworked: Range<usize>,
     /// The results of other jobs.
@@ -23,7 +23,7 @@ pub(crate) struct Hand {
 pub(crate) struct Progress {
     /// The unclaimed pieces, in order.
     board: VecDeque<Range<usize>>,
-    hands: Vec<Hand>,
+    hands: Vec<WorkerState>,
     /// The collected results, in the order in which they were collected.
     home: Vec<(usize, Mark)>,
 }
@@ -136,13 +136,13 @@ fn all_on_board<J>(alloc: Global, pieces: &[Vec<J>]) -> Result<VecDeque<Range<us
     Ok(board)
 }
 
-fn empty_hands(alloc: Global, workers: usize) -> Result<Vec<Hand>, AllocError>
+fn empty_hands(alloc: Global, workers: usize) -> Result<Vec<WorkerState>, AllocError>
     ensures { IfOk result (λ hands. map hand_by hands.items
         ≡ replicate workers (record { unworked = []; worked = [] })) }
 {
     let mut hands = Vec::with_capacity(alloc, workers)?;
     for _ in 0..workers {
-        hands.push_reserved(Hand {
+        hands.push_reserved(WorkerState {
             unworked: 0..0,
             worked: Vec::new(alloc),
         });

@@ -5,8 +5,8 @@ use denote.Param.Send.{IsSend, IsSync, Frees}
 use Rattle.std.specs.declared.alloc.Allocator.{Ghosts}
 use Rattle.delta_chain.specs.contracts.chain.Chain as Chain
 use Rattle.delta_chain.proofs.chain.Chain.TheSendSync as chain
-use Rattle.delta_chain.specs.contracts.late.LateChain as LateChain
-use Rattle.delta_chain.proofs.late.LateChain.TheSendSync as late
+use Rattle.delta_chain.specs.contracts.late.LazyChain as LazyChain
+use Rattle.delta_chain.proofs.late.LazyChain.TheSendSync as late
 
 module _ (V A : RattleType) (g : Ghosts A.Denot) where
   pub Chain-send : IsSend V → IsSend A → Frees g g.dealloc_token → IsSend (Chain.the_row V A g)
@@ -15,8 +15,8 @@ module _ (V A : RattleType) (g : Ghosts A.Denot) where
   pub Chain-sync : IsSync V → IsSync A → IsSync (Chain.the_row V A g)
   Chain-sync sv sa = chain.the_sync V A g sv sa
 
-  pub LateChain-send : IsSend V → IsSend A → Frees g g.dealloc_token → IsSend (LateChain.the_row V A g)
-  LateChain-send sv sa f = late.the_send V A g sv sa f
+  pub LazyChain-send : IsSend V → IsSend A → Frees g g.dealloc_token → IsSend (LazyChain.the_row V A g)
+  LazyChain-send sv sa f = late.the_send V A g sv sa f
 
-  pub LateChain-sync : IsSync V → IsSync A → IsSync (LateChain.the_row V A g)
-  LateChain-sync sv sa = late.the_sync V A g sv sa
+  pub LazyChain-sync : IsSync V → IsSync A → IsSync (LazyChain.the_row V A g)
+  LazyChain-sync sv sa = late.the_sync V A g sv sa

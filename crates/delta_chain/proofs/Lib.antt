@@ -3,7 +3,7 @@ mod Alone
 pub mod Counts
 pub mod Exchanging
 mod Halves
-pub mod LateLemmas
+pub mod LazyLemmas
 pub mod LayerLemmas
 pub mod Lending
 mod Lower

@@ -15,7 +15,7 @@ use Rattle.delta_chain.specs.Merging.{joined_changes, overlaid}
 use Rattle.delta_chain.specs.Counted.{IsCounted}
 use Rattle.delta_chain.specs.NewestRuns.{NamesKnown}
 use Rattle.delta_chain.proofs.Counts.{least_with_run, still_fewest, still_most, most_before}
-use Rattle.delta_chain.proofs.LateLemmas.{reverse-oldest, reverse-newer}
+use Rattle.delta_chain.proofs.LazyLemmas.{reverse-oldest, reverse-newer}
 use Rattle.delta_chain.proofs.NewestRunLemmas.{still_known}
 use Rattle.delta_chain.proofs.Exchanging.{exchanged-run, held-run, counted_exchanged}
 

@@ -2,7 +2,7 @@ pub mod Building
 pub mod Counted
 pub mod Exchange
 pub mod Kept
-pub mod Late
+pub mod Lazy
 pub mod Layers
 pub mod Lent
 pub mod Merging

@@ -245,7 +245,7 @@ impl<V, A: Allocator + Copy> Chain<V, A> {
 
     /// Borrows the page without the newest runs whose fingerprints show that they cannot contain `key`. It holds the
     /// same cell at `key`.
-    pub fn lent_for(&self, key: &[u8]) -> ChainRef<'_, V, A>
+    pub fn runs_for(&self, key: &[u8]) -> ChainRef<'_, V, A>
         ensures { holds result key.now ≡ holds self.now key.now }
     {
         let count = self.newest_runs.reach(key, self.runs.len());

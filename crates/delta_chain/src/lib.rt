@@ -20,6 +20,6 @@ pub use crate::base::Base;
 pub use crate::builder::{BaseBuilder, PushError};
 pub use crate::chain::{Chain, ChainRef, EntryBounds};
 pub use crate::key_list::KeyList;
-pub use crate::late::LateChain;
+pub use crate::late::LazyChain;
 pub use crate::pairs::{Pairs, copied_base};
 pub use crate::run::Run;

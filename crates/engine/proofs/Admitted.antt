@@ -3,11 +3,11 @@ use Rattle.std.specs.Prelude.{◌≡◌, ◌≤◌, ℕ, ◌+◌, Bool, true, fa
 use Rattle.std.proofs.Common.{refl}
 use Rattle.std.specs.Option.{option_or}
 use Rattle.std.proofs.lemmas.Bool.{ltb-false}
-use Rattle.keys.specs.Footprint.{Span, One, Range, Deed, Gives, span_of, deed_of}
+use Rattle.keys.specs.Footprint.{Span, One, Range, Access, Gives, span_of, access_of}
 use Rattle.keys.specs.declared.settings.Settings.{Settings}
 use Rattle.keys.specs.declared.command.Command.{Command}
 use Rattle.keys.specs.declared.fault.Fault.{Fault}
-use Rattle.climb_plan.specs.Limits.{IsShortPair, IsShortDeed, IsShortCommand, AreShort}
+use Rattle.climb_plan.specs.Limits.{IsShortPair, IsShortAccess, IsShortCommand, AreShort}
 use Rattle.engine.specs.Refusal.{key_fault, value_fault, bound_fault, deed_fault, fault_at, first_fault, refusal}
 use Rattle.engine.proofs.RefusedCalls.{refused_as, same_refusal}
 
@@ -41,7 +41,7 @@ short_bound : (s : Settings) (place : ℕ) (hi : Option (List ℕ)) → bound_fa
 short_bound s place None e = tt
 short_bound s place (Some hi) e = short_where s.max_key (length hi) _ e
 
-short_deed : (s : Settings) (place : ℕ) (span : Span) (deed : Deed) → deed_fault s place span deed ≡ None → IsShortDeed s span deed
+short_deed : (s : Settings) (place : ℕ) (span : Span) (deed : Access) → deed_fault s place span deed ≡ None → IsShortAccess s span deed
 short_deed s place (One k) (Gives v) e = short_pair s place k v e
 short_deed s place (One k) _ e = short_where s.max_key (length k) _ e
 short_deed s place (Range lo hi) deed e =
@@ -50,7 +50,7 @@ short_deed s place (Range lo hi) deed e =
 
 module _ {A : Type 0} (s : Settings) where
   short_command : (place : ℕ) (c : Command A) → fault_at s place c ≡ None → IsShortCommand s c
-  short_command place c e = short_deed s place (span_of c) (deed_of c) e
+  short_command place c e = short_deed s place (span_of c) (access_of c) e
 
   short_from : (place : ℕ) (cs : List (Command A)) → first_fault s place cs ≡ None → AreShort s cs
   short_from place [] e = tt

@@ -9,7 +9,7 @@ use Rattle.crew.specs.Crew.{is_crew}
 use Rattle.crew.specs.declared.limits.Crew.{Crew}
 use Rattle.mapping.specs.Levels.{contents}
 use Rattle.mapping.specs.Tree.{Store, with_tree}
-use Rattle.flush_log.specs.Disk.{View, IsSettled, LeavesOnly, Same}
+use Rattle.flush_log.specs.Disk.{View, IsSynced, LeavesOnly, Same}
 use Rattle.flush_log.proofs.ViewLemmas.{weaker}
 use Rattle.recovery.specs.InStep.{IsInStep, AreInStep}
 use Rattle.recovery.specs.Recovered.{IsReadOf}
@@ -89,11 +89,11 @@ module _ {D : Type 0} (view : D → View) (failures : D → ℕ) (x y : State D)
     clean-durable honest (Ok n) made = same_recovered keeps x.settings x.store y.store seen (view y.disk).seen (sound.step fine honest) made
     clean-durable honest (Err fault) made = tt
 
-    pub clean-crash : IsSettled (view x.disk)
+    pub clean-crash : IsSynced (view x.disk)
         → LeavesOnly (view x.disk) (view y.disk) (λ c. (store_of_disk c ≡ store_of_disk seen) ⊎ ((now : Store) × (after_clean x.settings x.store seen ≡ Ok (now, c))))
         → LeavesOnly (view x.disk) (view y.disk) (λ c. recovered_from c ≡ recovered_from seen)
-    clean-crash settled run = weaker (view x.disk) (view y.disk) _ (λ c. recovered_from c ≡ recovered_from seen) left run
+    clean-crash is_synced run = weaker (view x.disk) (view y.disk) _ (λ c. recovered_from c ≡ recovered_from seen) left run
       where
         left : (c : Bytes) → (store_of_disk c ≡ store_of_disk seen) ⊎ ((now : Store) × (after_clean x.settings x.store seen ≡ Ok (now, c))) → recovered_from c ≡ recovered_from seen
         left c (inl before) = ap held_in before
-        left c (inr (now, made)) = same_recovered keeps x.settings x.store now seen c (sound.step fine settled.honest) made
+        left c (inr (now, made)) = same_recovered keeps x.settings x.store now seen c (sound.step fine is_synced.honest) made

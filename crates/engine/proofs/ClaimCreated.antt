@@ -10,7 +10,7 @@ use Rattle.keys.specs.declared.settings.Field.{Field}
 use Rattle.keys.specs.declared.settings.Settings.{Settings}
 use Rattle.mapping.specs.Levels.{contents}
 use Rattle.mapping.specs.Tree.{Store}
-use Rattle.flush_log.specs.Disk.{View, Lawful, IsSettled, Kept, LeavesOnly}
+use Rattle.flush_log.specs.Disk.{View, Lawful, IsSynced, Kept, LeavesOnly}
 use Rattle.flush_log.specs.NewStore.{disk_of_new}
 use Rattle.flush_log.specs.Segments.{HasSegments, disk_size}
 use Rattle.flush_log.proofs.SameLemmas.{leaves_itself}
@@ -69,8 +69,8 @@ module _ {D : Type 0} (view : D → View) (failures : D → ℕ) (stands : Stand
       → IfOk r (λ x. contents x.store.tree ≡ [])
       → IfOk r (λ x. Kept (view disk) (view x.disk) × (failures x.disk ≡ failures disk))
       → IfOk r (λ x. IsSound view x)
-      → IfOk r (λ x. (after_create s seen ≡ Ok (x.store, (view x.disk).seen)) × IsSettled (view x.disk))
-      → IfOk r (λ x. (recovered_from (view x.disk).seen ≡ Some (new_under s)) × IsSettled (view x.disk))
+      → IfOk r (λ x. (after_create s seen ≡ Ok (x.store, (view x.disk).seen)) × IsSynced (view x.disk))
+      → IfOk r (λ x. (recovered_from (view x.disk).seen ≡ Some (new_under s)) × IsSynced (view x.disk))
   create-durable (Ok x) made empty kept sound bytes = (one x made.0 made.1 empty kept.0 sound bytes.0, bytes.1)
   create-durable (Err e) made empty kept sound bytes = tt
 
@@ -84,19 +84,19 @@ module _ {D : Type 0} (view : D → View) (failures : D → ℕ) (stands : Stand
       let has : disk_size s ≤ length seen = subst (λ (n : ℕ). disk_size s ≤ n) (sym lawful.whole) room in
       weaker (view disk) v _ Left (λ c. left stands s seen c empty good has) run
 
-  crash_by : (o : Option Fault) → create_refusal s (view disk).size ≡ o → contents first_store.tree ≡ [] → IsSettled (view disk) → (r : Result (State D) (Fault × D))
+  crash_by : (o : Option Fault) → create_refusal s (view disk).size ≡ o → contents first_store.tree ≡ [] → IsSynced (view disk) → (r : Result (State D) (Fault × D))
       → MatchOption o (IfErr r (λ e. IsLate (failures disk) (failures e.1) e.0)) (λ fault. IsErr r × IfErr r (λ e. e.0 ≡ fault))
       → IfErr r (λ e. Kept (view disk) (view e.1) × (e.0 ≢ Device → e.1 ≡ disk))
       → MatchResult r (λ x. LeavesOnly (view disk) (view x.disk) (IsLeftCreating s seen)) (λ e. LeavesOnly (view disk) (view e.1) (IsLeftCreating s seen))
       → LeavesOnly (view disk) (view (disk_in (λ (x : State D). x.disk) r)) Left
-  crash_by None free empty settled (Ok x) refused back run = weaker_left (view x.disk) free empty run
-  crash_by None free empty settled (Err e) refused back run = weaker_left (view e.1) free empty run
-  crash_by (Some fault) is empty settled (Ok x) refused back run = (let no = refused.0 in absurd (cc))
-  crash_by (Some fault) is empty settled (Err e) refused back run =
+  crash_by None free empty is_synced (Ok x) refused back run = weaker_left (view x.disk) free empty run
+  crash_by None free empty is_synced (Err e) refused back run = weaker_left (view e.1) free empty run
+  crash_by (Some fault) is empty is_synced (Ok x) refused back run = (let no = refused.0 in absurd (cc))
+  crash_by (Some fault) is empty is_synced (Err e) refused back run =
       let same : e.1 ≡ disk = back.1 (λ device. not_by_device s (view disk).size fault is (sym refused.1 ∙ device)) in
-      subst (λ (d : D). LeavesOnly (view disk) (view d) Left) (sym same) (leaves_itself (view disk) Left lawful settled (inl refl))
+      subst (λ (d : D). LeavesOnly (view disk) (view d) Left) (sym same) (leaves_itself (view disk) Left lawful is_synced (inl refl))
 
-  pub create-crash : contents first_store.tree ≡ [] → IsSettled (view disk) → (r : Result (State D) (Fault × D))
+  pub create-crash : contents first_store.tree ≡ [] → IsSynced (view disk) → (r : Result (State D) (Fault × D))
       → MatchOption (create_refusal s (view disk).size) (IfErr r (λ e. IsLate (failures disk) (failures e.1) e.0)) (λ fault. IsErr r × IfErr r (λ e. e.0 ≡ fault))
       → IfErr r (λ e. Kept (view disk) (view e.1) × (e.0 ≢ Device → e.1 ≡ disk))
       → MatchResult r (λ x. LeavesOnly (view disk) (view x.disk) (IsLeftCreating s seen)) (λ e. LeavesOnly (view disk) (view e.1) (IsLeftCreating s seen))
@@ -105,7 +105,7 @@ module _ {D : Type 0} (view : D → View) (failures : D → ℕ) (stands : Stand
 
   -- its state and the bytes
   pub create-state : (r : Result (State D) (Fault × D))
-      → IfOk r (λ x. (after_create s seen ≡ Ok (x.store, (view x.disk).seen)) × IsSettled (view x.disk))
+      → IfOk r (λ x. (after_create s seen ≡ Ok (x.store, (view x.disk).seen)) × IsSynced (view x.disk))
       → IfOk r (λ x. created_to s seen ≡ Some (x.store, (view x.disk).seen))
   create-state (Ok x) made = ap if_ok made.0
   create-state (Err e) made = tt

@@ -10,7 +10,7 @@ use Rattle.keys.specs.declared.command.Reply.{Reply}
 use Rattle.keys.specs.declared.fault.Fault.{Fault}
 use Rattle.keys.specs.declared.fault.Fault.TheVariants.{Device, Failed, NoMemory}
 use Rattle.keys.specs.declared.settings.Settings.{Settings}
-use Rattle.flush_log.specs.Disk.{View, Lawful, IsSettled, Kept, LeavesOnly, Same}
+use Rattle.flush_log.specs.Disk.{View, Lawful, IsSynced, Kept, LeavesOnly, Same}
 use Rattle.flush_log.proofs.SameLemmas.{leaves_itself, left_still, settled_still}
 use Rattle.flush_log.proofs.ViewLemmas.{now_leaves, only_then, weaker}
 use Rattle.recovery.proofs.ReadBytes.{kept_self, kept_then}
@@ -94,8 +94,8 @@ module _ {State : Type 0} (recovered : Bytes → Option Held) (calls : StateCall
     none = λ _. refl;
     durable = λ _. refl;
     state = λ _. refl;
-    settled = λ settled. settled;
-    crash = λ settled. leaves_itself old.disk _ (lawful settled.honest) settled (0, omega arith, refl);
+    is_synced = λ is_synced. is_synced;
+    crash = λ is_synced. leaves_itself old.disk _ (lawful is_synced.honest) is_synced (0, omega arith, refl);
   }
 
   -- more steps after a turn
@@ -121,13 +121,13 @@ module _ {State : Type 0} (recovered : Bytes → Option Held) (calls : StateCall
         (subst (λ (s : Settings). IsDurableAfterSome s (recovered mid.disk.seen) mid.contents zs c) first.rest.0 is)))
 
     -- a crash in what comes after the turn
-    pub crash_of : (zs : List (Step Global)) → IsSettled old.disk
+    pub crash_of : (zs : List (Step Global)) → IsSynced old.disk
         → LeavesOnly mid.disk new.disk (λ c. IsDurableAfterSome mid.settings (recovered mid.disk.seen) mid.contents zs (recovered c))
         → LeavesOnly old.disk new.disk (λ c. IsDurableAfterSome old.settings (recovered old.disk.seen) old.contents (xs ++ zs) (recovered c))
-    crash_of zs settled later =
+    crash_of zs is_synced later =
         only_then old.disk mid.disk new.disk _
-        (weaker old.disk mid.disk _ _ (λ c is. some-first old.settings (recovered old.disk.seen) old.contents xs zs (recovered c) is) (first.crash settled))
-        (weaker mid.disk new.disk _ _ (λ c is. some_there settled.honest zs (recovered c) is) later)
+        (weaker old.disk mid.disk _ _ (λ c is. some-first old.settings (recovered old.disk.seen) old.contents xs zs (recovered c) is) (first.crash is_synced))
+        (weaker mid.disk new.disk _ _ (λ c is. some_there is_synced.honest zs (recovered c) is) later)
 
     contents_of : new.contents ≡ contents_after mid.contents ys → new.contents ≡ contents_after old.contents (xs ++ ys)
     contents_of next =
@@ -149,8 +149,8 @@ module _ {State : Type 0} (recovered : Bytes → Option Held) (calls : StateCall
           state-append calls old.settings xs ys mid.state mid.disk.seen old.state old.disk.seen (first.state honest)
           ∙ ap (λ (s : Settings). state_after calls s mid.state mid.disk.seen ys) (sym first.rest.0)
           ∙ next.state (honest_still honest);
-      settled = λ settled. next.settled (first.settled settled);
-      crash = λ settled. crash_of ys settled (next.crash (first.settled settled));
+      is_synced = λ is_synced. next.is_synced (first.is_synced is_synced);
+      crash = λ is_synced. crash_of ys is_synced (next.crash (first.is_synced is_synced));
     }
 
 -- ---- one step that succeeded
@@ -181,10 +181,10 @@ module _ {D State : Type 0} (view : D → View) (lawful : (disk : D) → IsTrue 
     state = λ _.
         ap (λ (x : State). (let q : Option (State × Bytes) = Some (x, (view d).seen) in q)) (sym state)
         ∙ ap (λ (x : D). (let q : Option (State × Bytes) = Some (next, (view x).seen) in q)) (sym disk);
-    settled = λ settled. subst (λ (x : D). IsSettled (view x)) (sym disk) settled;
-    crash = λ settled.
+    is_synced = λ is_synced. subst (λ (x : D). IsSynced (view x)) (sym disk) is_synced;
+    crash = λ is_synced.
         (let P : Bytes → Type 0 = λ k. IsDurableAfterSome s (recovered (view d).seen) m (Batch cs ∷ []) (recovered k) in
-        subst (λ (x : D). LeavesOnly (view d) (view x) P) (sym disk) (leaves_itself (view d) P (lawful d settled.honest) settled (0, omega arith, refl)));
+        subst (λ (x : D). LeavesOnly (view d) (view x) P) (sym disk) (leaves_itself (view d) P (lawful d is_synced.honest) is_synced (0, omega arith, refl)));
   }
 
   -- a flush, a clean or an upgrade, after which this is durable
@@ -193,17 +193,17 @@ module _ {D State : Type 0} (view : D → View) (lawful : (disk : D) → IsTrue 
     pub call_turn : b ≡ false → now ≡ m → (t ≡ s) × Kept (view d) (view e) → c ≡ b
         → (IsTrue (view d).is_honest → recovered (view e).seen ≡ held)
         → (IsTrue (view d).is_honest → state_after calls s st (view d).seen (x ∷ []) ≡ Some (next, (view e).seen))
-        → (IsSettled (view d) → IsSettled (view e))
-        → (IsSettled (view d) → LeavesOnly (view d) (view e) (λ k. (recovered k ≡ recovered (view d).seen) ⊎ (recovered k ≡ held)))
+        → (IsSynced (view d) → IsSynced (view e))
+        → (IsSynced (view d) → LeavesOnly (view d) (view e) (λ k. (recovered k ≡ recovered (view d).seen) ⊎ (recovered k ≡ held)))
         → IsTurnOf recovered calls before (x ∷ []) (a ∷ []) left
-    call_turn fine contents (settings, kept) failed durable state settled crash = record {
+    call_turn fine contents (settings, kept) failed durable state is_synced crash = record {
       answered = answered;
       contents = contents ∙ sym same_pairs;
       rest = (settings, failed, kept);
       none = λ bad. absurd (not_both b bad fine);
       durable = λ honest. durable honest ∙ sym holds;
       state = state;
-      settled = settled;
+      is_synced = is_synced;
       crash = λ still. weaker (view d) (view e) _ _ (λ k is. ⊎_elim (λ before. (0, omega arith, before)) (λ after. (1, omega arith, after ∙ sym holds)) is) (crash still);
     }
 
@@ -232,14 +232,14 @@ module _ {State : Type 0} (recovered : Bytes → Option Held) (calls : StateCall
       failed = λ bad. (refl, failed bad);
       turn = λ _. turn;
       device = λ device. absurd (other device);
-      crash = λ settled. weaker old.disk new.disk _ _ (λ k is. some-first old.settings (recovered old.disk.seen) old.contents [] (x ∷ []) (recovered k) is) (turn.crash settled);
-      following = λ settled k left. inl (ap recovered ((turn.settled settled).only k left) ∙ turn.durable settled.honest);
+      crash = λ is_synced. weaker old.disk new.disk _ _ (λ k is. some-first old.settings (recovered old.disk.seen) old.contents [] (x ∷ []) (recovered k) is) (turn.crash is_synced);
+      following = λ is_synced k left. inl (ap recovered ((turn.is_synced is_synced).only k left) ∙ turn.durable is_synced.honest);
     }
 
     -- a call of the disk failed in it
     pub device_stopped : (held : Option Held) → durable_after old.settings (recovered old.disk.seen) old.contents (x ∷ []) ≡ held → fault ≡ Device → new.contents ≡ old.contents
         → (new.settings ≡ old.settings) × Kept old.disk new.disk → new.has_failed ≡ true → (IsTrue new.disk.is_honest → Lawful new.disk)
-        → (old.has_failed ≡ false → IsSettled old.disk → LeavesOnly old.disk new.disk (λ k. (recovered k ≡ recovered old.disk.seen) ⊎ (recovered k ≡ held)))
+        → (old.has_failed ≡ false → IsSynced old.disk → LeavesOnly old.disk new.disk (λ k. (recovered k ≡ recovered old.disk.seen) ⊎ (recovered k ≡ held)))
         → IsStoppedOf recovered calls old [] [] x fault new
     device_stopped held holds device contents rest flag lawful crash = record {
       answered = refl;
@@ -248,9 +248,9 @@ module _ {State : Type 0} (recovered : Bytes → Option Held) (calls : StateCall
       failed = λ bad. (refl, failed bad);
       turn = λ other. absurd (other device);
       device = λ _. flag;
-      crash = λ settled. weaker old.disk new.disk _ _ (λ k is. ⊎_elim (λ before. (0, omega arith, before)) (λ after. (1, omega arith, after ∙ sym holds)) is) (crash fine settled);
-      following = λ settled k left. ⊎_elim (λ before. inl before) (λ after. inr (after ∙ sym holds))
-          (now_leaves old.disk new.disk _ (lawful (subst IsTrue (sym rest.1.honest) settled.honest)) (crash fine settled) k left);
+      crash = λ is_synced. weaker old.disk new.disk _ _ (λ k is. ⊎_elim (λ before. (0, omega arith, before)) (λ after. (1, omega arith, after ∙ sym holds)) is) (crash fine is_synced);
+      following = λ is_synced k left. ⊎_elim (λ before. inl before) (λ after. inr (after ∙ sym holds))
+          (now_leaves old.disk new.disk _ (lawful (subst IsTrue (sym rest.1.honest) is_synced.honest)) (crash fine is_synced) k left);
     } where
       fine : old.has_failed ≡ false
       fine = fine_at_device old.has_failed fault failed device
@@ -268,11 +268,11 @@ module _ {State : Type 0} (recovered : Bytes → Option Held) (calls : StateCall
           (subst (λ (l : List (Answer Global)). IsTurnOf recovered calls old (xs ++ []) l new) (append-nil answers)
           (turns_on recovered calls old mid new xs [] answers [] first (last.turn other)));
       device = last.device;
-      crash = λ settled. crash_of recovered calls old mid new xs [] answers [] first (x ∷ []) settled (last.crash (first.settled settled));
-      following = λ settled k left. ⊎_elim
-          (λ before. inl (before ∙ first.durable settled.honest))
-          (λ after. inr (after ∙ durable_there recovered calls old mid new xs [] answers [] first settled.honest (x ∷ [])))
-          (last.following (first.settled settled) k left);
+      crash = λ is_synced. crash_of recovered calls old mid new xs [] answers [] first (x ∷ []) is_synced (last.crash (first.is_synced is_synced));
+      following = λ is_synced k left. ⊎_elim
+          (λ before. inl (before ∙ first.durable is_synced.honest))
+          (λ after. inr (after ∙ durable_there recovered calls old mid new xs [] answers [] first is_synced.honest (x ∷ [])))
+          (last.following (first.is_synced is_synced) k left);
     }
 
 -- ---- lists as they are called
@@ -318,7 +318,7 @@ module _ {X D State : Type 0} (con : X → Pairs Bytes) (set : X → Settings) (
     module _ (contents : con new ≡ con old) (rest : (set new ≡ set old) × Kept (view (disk old)) (view (disk new))) where
       -- a flush or an upgrade
       pub written_stopped : (held : Option Held) → durable_after (set old) (recovered (view (disk old)).seen) (con old) (x ∷ []) ≡ held → (fault ≡ Device → bad new ≡ true) → (fault ≢ Device → new ≡ old)
-          → (bad old ≡ false → IsSettled (view (disk old)) → LeavesOnly (view (disk old)) (view (disk new)) (λ k. (recovered k ≡ recovered (view (disk old)).seen) ⊎ (recovered k ≡ held)))
+          → (bad old ≡ false → IsSynced (view (disk old)) → LeavesOnly (view (disk old)) (view (disk new)) (λ k. (recovered k ≡ recovered (view (disk old)).seen) ⊎ (recovered k ≡ held)))
           → IsStoppedOf recovered calls (members old) [] [] x fault (members new)
       written_stopped held holds flag same crash = ⊎_elim
           (λ device. device_stopped recovered calls (members old) (members new) x fault failed held holds device contents rest (flag device) (lawful (disk new)) crash)
@@ -337,19 +337,19 @@ module _ {X D State : Type 0} (con : X → Pairs Bytes) (set : X → Settings) (
         state = λ honest.
             ap (λ (y : State). (let q : Option (State × Bytes) = Some (y, (view (disk old)).seen) in q)) (sym state)
             ∙ ap (λ (f : Bytes). (let q : Option (State × Bytes) = Some (st new, f) in q)) (sym (same honest other).seen);
-        settled = λ settled. settled_still (view (disk old)) (view (disk new)) rest.1 (same settled.honest other) settled;
-        crash = λ settled. left_still (view (disk old)) (view (disk old)) (view (disk new)) _
-            (leaves_itself (view (disk old)) _ (lawful (disk old) settled.honest) settled (0, omega arith, refl)) (same settled.honest other);
+        is_synced = λ is_synced. settled_still (view (disk old)) (view (disk new)) rest.1 (same is_synced.honest other) is_synced;
+        crash = λ is_synced. left_still (view (disk old)) (view (disk old)) (view (disk new)) _
+            (leaves_itself (view (disk old)) _ (lawful (disk old) is_synced.honest) is_synced (0, omega arith, refl)) (same is_synced.honest other);
       }
 
       pub clean_stopped : durable_after (set old) (recovered (view (disk old)).seen) (con old) (x ∷ []) ≡ recovered (view (disk old)).seen
           → (fault ≡ Device → bad new ≡ true) × (fault ≢ Device → bad new ≡ bad old) → st new ≡ st old
           → (IsTrue (view (disk old)).is_honest → fault ≢ Device → Same (view (disk old)) (view (disk new)))
-          → (bad old ≡ false → IsSettled (view (disk old)) → LeavesOnly (view (disk old)) (view (disk new)) (λ k. recovered k ≡ recovered (view (disk old)).seen))
+          → (bad old ≡ false → IsSynced (view (disk old)) → LeavesOnly (view (disk old)) (view (disk new)) (λ k. recovered k ≡ recovered (view (disk old)).seen))
           → IsStoppedOf recovered calls (members old) [] [] x fault (members new)
       clean_stopped holds flag state same crash = ⊎_elim
           (λ device. device_stopped recovered calls (members old) (members new) x fault failed _ holds device contents rest (flag.0 device) (lawful (disk new))
-          (λ fine settled. either_is recovered (view (disk old)) (view (disk new)) (recovered (view (disk old)).seen) (crash fine settled)))
+          (λ fine is_synced. either_is recovered (view (disk old)) (view (disk new)) (recovered (view (disk old)).seen) (crash fine is_synced)))
           (λ other. turn_stopped recovered calls (members old) (members new) x fault failed other.0 (read_only flag.1 state same other.0))
           (device_or_not fault)
 

@@ -9,8 +9,8 @@ use Rattle.crew.specs.Crew.{is_crew}
 use Rattle.crew.specs.declared.limits.Crew.{Crew}
 use Rattle.mapping.specs.Levels.{contents}
 use Rattle.mapping.specs.Tree.{Store}
-use Rattle.flush_log.specs.Disk.{View, Lawful, IsSettled, LeavesOnly}
-use Rattle.flush_log.specs.FlushText.{flushed, flush_text}
+use Rattle.flush_log.specs.Disk.{View, Lawful, IsSynced, LeavesOnly}
+use Rattle.flush_log.specs.FlushText.{flushed, flush_frames}
 use Rattle.flush_log.proofs.SameLemmas.{leaves_itself}
 use Rattle.flush_log.proofs.ViewLemmas.{weaker}
 use Rattle.recovery.specs.InStep.{IsStore, IsStoreOf}
@@ -84,14 +84,14 @@ module _ (after : Settings → Store → Bytes → Result (Store × Bytes) Fault
             recovered reads x.settings x.store y.store seen (view y.disk).seen (in_step (fine_where x.has_failed (Ok n) n refl failed) honest) frames bytes
         written-durable (Err fault) failed honest bytes frames = tt
 
-        module _ (fine : x.has_failed ≡ false) (settled : IsSettled (view x.disk)) (lawful : Lawful (view x.disk)) where
+        module _ (fine : x.has_failed ≡ false) (is_synced : IsSynced (view x.disk)) (lawful : Lawful (view x.disk)) where
           abbrev Left : Bytes → Type 0
           Left = RecoversEither recovered_from (recovered_from seen) (Some (x.settings, contents x.store.tree))
 
           left : Frames x.settings x.store → (c : Bytes)
               → (store_of_disk c ≡ store_of_disk seen) ⊎ ((now : Store) × (after x.settings x.store seen ≡ Ok (now, c))) → Left c
           left frames c (inl before) = inl (ap held_in before)
-          left frames c (inr (now, made)) = inr (recovered reads x.settings x.store now seen c (in_step fine settled.honest) frames made)
+          left frames c (inr (now, made)) = inr (recovered reads x.settings x.store now seen c (in_step fine is_synced.honest) frames made)
 
           pub written-crash : (r : Result ℕ Fault)
               → OnOk r (Frames x.settings x.store)
@@ -104,21 +104,21 @@ module _ (after : Settings → Store → Bytes → Result (Store × Bytes) Fault
               ⊎_elim
               (λ device. weaker (view x.disk) (view y.disk) _ Left (left (under_way device)) run)
               (λ other. subst (λ (z : State D). LeavesOnly (view x.disk) (view z.disk) Left) (sym (unchanged other.0))
-              (leaves_itself (view x.disk) Left lawful settled (inl refl)))
+              (leaves_itself (view x.disk) Left lawful is_synced (inl refl)))
               (device_or_not fault)
 
 -- a flush that has nothing to write leaves a settled disk
 module _ {D : Type 0} (view : D → View) (x y : State D) (crew : Crew) where
-  pub flush-settled : IsSettled (view x.disk) → (r : Result ℕ Fault) → (x.has_failed ≡ true → r ≡ Err Failed)
+  pub flush-is_synced : IsSynced (view x.disk) → (r : Result ℕ Fault) → (x.has_failed ≡ true → r ≡ Err Failed)
       → (x.has_failed ≡ false → is_crew crew ≡ false → r ≡ Err BadCrew)
-      → (x.has_failed ≡ false → IsTrue (is_crew crew) → flush_text x.store.version x.store.tree ≡ [] → (r ≡ Ok x.store.sequence) × (y ≡ x))
-      → (flush_text x.store.version x.store.tree ≢ [] → OnOk r (IsSettled (view y.disk)))
-      → OnOk r (IsSettled (view y.disk))
-  flush-settled settled (Err fault) failed bad nothing some = tt
-  flush-settled settled (Ok n) failed bad nothing some =
+      → (x.has_failed ≡ false → IsTrue (is_crew crew) → flush_frames x.store.version x.store.tree ≡ [] → (r ≡ Ok x.store.sequence) × (y ≡ x))
+      → (flush_frames x.store.version x.store.tree ≢ [] → OnOk r (IsSynced (view y.disk)))
+      → OnOk r (IsSynced (view y.disk))
+  flush-is_synced is_synced (Err fault) failed bad nothing some = tt
+  flush-is_synced is_synced (Ok n) failed bad nothing some =
       let fine = fine_where x.has_failed (Ok n) n refl failed in
       let able = able_where (is_crew crew) (Ok n) n refl (bad fine) in
       ⊎_elim
-      (λ none. subst (λ (z : State D). IsSettled (view z.disk)) (sym (nothing fine able none).1) settled)
+      (λ none. subst (λ (z : State D). IsSynced (view z.disk)) (sym (nothing fine able none).1) is_synced)
       (λ due. some due)
-      (empty_or_not (flush_text x.store.version x.store.tree))
+      (empty_or_not (flush_frames x.store.version x.store.tree))

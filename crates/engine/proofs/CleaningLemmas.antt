@@ -10,9 +10,9 @@ use Rattle.mapping.specs.Levels.{contents}
 use Rattle.mapping.specs.Tree.{Store}
 use Rattle.frame_codec.specs.Frame.{Frame}
 use Rattle.flush_log.specs.AfterFlush.{Commit, flush_commit, file_after, is_spent, store_after, after_flush, after_text}
-use Rattle.flush_log.specs.FlushText.{flush_text, flushed}
+use Rattle.flush_log.specs.FlushText.{flush_frames, flushed}
 use Rattle.flush_log.specs.Layout.{is_full_for_flush}
-use Rattle.flush_log.specs.Disk.{View, Lawful, IsSettled, Kept, Same, LeavesOnly}
+use Rattle.flush_log.specs.Disk.{View, Lawful, IsSynced, Kept, Same, LeavesOnly}
 use Rattle.flush_log.specs.Ends.{ends_of}
 use Rattle.flush_log.proofs.SameLemmas.{leaves_the_same}
 use Rattle.recovery.specs.InStep.{IsStore}
@@ -78,10 +78,10 @@ text_full s st file other (f ∷ fs) h =
     commit_full (is_spent m.slot) (is_full_for_flush s m.slot.head m.slot.tail) (store_after (flushed st.tree) m.slot, file_after s file m) (store_after (flushed st.tree) m.slot, file_after s other m) h
 
 full_any : (s : Settings) (st : Store) (file other : List ℕ) → after_flush s st file ≡ Err Full → after_flush s st other ≡ Err Full
-full_any s st file other h = text_full s st file other (flush_text st.version st.tree) h
+full_any s st file other h = text_full s st file other (flush_frames st.version st.tree) h
 
 -- a flush that finds the log full has something to write
-due_when_full : (s : Settings) (st : Store) (file : List ℕ) → after_flush s st file ≡ Err Full → flush_text st.version st.tree ≢ []
+due_when_full : (s : Settings) (st : Store) (file : List ℕ) → after_flush s st file ≡ Err Full → flush_frames st.version st.tree ≢ []
 due_when_full s st file full none = (let e = subst (λ (text : List Frame). after_text s st file text ≡ Err Full) none full in absurd (cc))
 
 pub step_full : (s : Settings) (st : Store) (file : List ℕ) → after_flush s st file ≡ Err Full → (let q : Stepped Global = after_step (batching s) s st file Flush in q ≡ Err Full)
@@ -220,7 +220,7 @@ module _ {D : Type 0} (view : D → View) (failures : D → ℕ) (lawful : (disk
 
   module _ (rows : List CleanRow) (cur : State D) (are : AreDone view failures old rows cur) (next : State D) where
     abbrev CrashIn : Step Global → Type 0
-    CrashIn x = cur.has_failed ≡ false → IsSettled (view cur.disk) → LeavesOnly (view cur.disk) (view next.disk) (IsLeftInStep cur.settings cur.store (view cur.disk).seen x)
+    CrashIn x = cur.has_failed ≡ false → IsSynced (view cur.disk) → LeavesOnly (view cur.disk) (view next.disk) (IsLeftInStep cur.settings cur.store (view cur.disk).seen x)
 
     abbrev DoneIn : Step Global → code_answer.Answer → Type 0
     DoneIn x a = IsTrue (view cur.disk).is_honest → after_step (batching cur.settings) cur.settings cur.store (view cur.disk).seen x ≡ Ok (answer_of a, (next.store, (view next.disk).seen))
@@ -241,12 +241,12 @@ module _ {D : Type 0} (view : D → View) (failures : D → ℕ) (lawful : (disk
         → (next.has_failed ≡ cur.has_failed) × (failures next.disk ≡ failures cur.disk)
         → old.has_failed ≡ false
         → DoneIn Flush a
-        → (IsSettled (view cur.disk) → IsSettled (view next.disk))
+        → (IsSynced (view cur.disk) → IsSynced (view next.disk))
         → CrashIn Flush
         → IsSound view next
         → count_of rows ≤ old.settings.segments
         → IsFlushedCleaning view failures old next
-    flushed_on a (bytes, step) rest counted fine exact settled crash sound most =
+    flushed_on a (bytes, step) rest counted fine exact is_synced crash sound most =
         let done = are.done in
         let seen = (view cur.disk).seen in
         record {
@@ -266,7 +266,7 @@ module _ {D : Type 0} (view : D → View) (failures : D → ℕ) (lawful : (disk
                 (exact (here h)),
           );
           said = done.said ++ a ∷ [];
-          turn = goes_on view failures lawful old (cleans (count_of rows)) done.said cur done.turn next Flush a (bytes, step) rest counted (done.turn.has_failed ∙ fine) exact settled crash sound;
+          turn = goes_on view failures lawful old (cleans (count_of rows)) done.said cur done.turn next Flush a (bytes, step) rest counted (done.turn.has_failed ∙ fine) exact is_synced crash sound;
           holds = flush_holds (view cur.disk).is_honest cur.settings cur.store (view cur.disk).seen a next.store bytes done.turn.sound.is step ∙ ap contents done.tree;
         }
 
@@ -369,7 +369,7 @@ module _ {D : Type 0} (view : D → View) (failures : D → ℕ) (lawful : (disk
           step = Flush;
           why = (file, λ honest. shown (subst IsTrue (sym done.turn.kept.honest) honest) ∙ done.turn.bytes honest, inl (refl, why));
           crash = λ fine was. crash_on view failures lawful old (cleans (count_of rows)) are.done.said cur are.done.turn next Flush
-              (λ _ settled. leaves_the_same (view cur.disk) (view next.disk) _ (lawful cur.disk settled.honest) (only.same settled.honest) settled (inl refl)) fine was;
+              (λ _ is_synced. leaves_the_same (view cur.disk) (view next.disk) _ (lawful cur.disk is_synced.honest) (only.same is_synced.honest) is_synced (inl refl)) fine was;
         }
 
     -- ---- cleans after a flush that finds the log full

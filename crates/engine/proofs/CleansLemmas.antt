@@ -83,7 +83,7 @@ module _ {D : Type 0} (view : D → View) (failures : D → ℕ) (lawful : (disk
         record {
           said = done.said ++ a ∷ [];
           turn = turn_as view failures old next (cleans count ++ Clean ∷ []) (cleans (suc count)) (done.said ++ a ∷ []) (done.said ++ a ∷ []) (one_more_clean count) refl
-              (goes_on view failures lawful old (cleans count) done.said cur done.turn next Clean a c.step c.rest c.counted fine c.bytes c.settled c.crash c.sound);
+              (goes_on view failures lawful old (cleans count) done.said cur done.turn next Clean a c.step c.rest c.counted fine c.bytes c.is_synced c.crash c.sound);
           tree = clean_tree (view cur.disk).is_honest cur.settings cur.store (view cur.disk).seen a next.store c.step.0 c.step.1 ∙ done.tree;
         }
 

@@ -11,9 +11,9 @@ use Rattle.keys.specs.declared.settings.Settings.{Settings}
 use Rattle.mapping.specs.Levels.{contents}
 use Rattle.mapping.specs.Tree.{Store, Tree, with_tree}
 use Rattle.flush_log.specs.AfterFlush.{after_flush}
-use Rattle.flush_log.specs.Disk.{View, Lawful, IsSettled, Kept, LeavesOnly}
-use Rattle.flush_log.specs.FlushText.{flush_text, flushed, HasFrames}
-use Rattle.flush_log.specs.declared.text.Text.TheVariants as texts
+use Rattle.flush_log.specs.Disk.{View, Lawful, IsSynced, Kept, LeavesOnly}
+use Rattle.flush_log.specs.FlushText.{flush_frames, flushed, HasFrames}
+use Rattle.flush_log.specs.declared.text.CommitKind.TheVariants as texts
 use Rattle.flush_log.proofs.ViewLemmas.{weaker}
 use Rattle.recovery.specs.InStep.{IsStore, IsStoreOf}
 use Rattle.recovery.specs.Recovered.{IsLate}
@@ -72,22 +72,22 @@ not_empty : {T : Type 0} (f : T) (fs : List T) → f ∷ fs ≢ []
 not_empty f fs e = absurd (cc)
 
 -- it is settled, whether something was to be written or not
-settled_by : {D T : Type 0} (view : D → View) (text : List T) (old new : D) → (text ≡ [] → new ≡ old) → (text ≢ [] → IsSettled (view new)) → IsSettled (view old) → IsSettled (view new)
-settled_by {D = D} view [] old new same written settled = subst (λ (d : D). IsSettled (view d)) (sym (same refl)) settled
-settled_by view (f ∷ fs) old new same written settled = written (not_empty f fs)
+settled_by : {D T : Type 0} (view : D → View) (text : List T) (old new : D) → (text ≡ [] → new ≡ old) → (text ≢ [] → IsSynced (view new)) → IsSynced (view old) → IsSynced (view new)
+settled_by {D = D} view [] old new same written is_synced = subst (λ (d : D). IsSynced (view d)) (sym (same refl)) is_synced
+settled_by view (f ∷ fs) old new same written is_synced = written (not_empty f fs)
 
 -- what a flush leaves of a sound store on a settled disk: the disk stands for the store, and is settled
-filled : {D : Type 0} (view : D → View) (old now : State D) → IsSound view old → old.has_failed ≡ false → IsSettled (view old.disk)
+filled : {D : Type 0} (view : D → View) (old now : State D) → IsSound view old → old.has_failed ≡ false → IsSynced (view old.disk)
     → HasFrames old.settings (texts.Flush old.store.version) old.store.tree
     → ((s : Settings) (st now : Store) (file bytes : Bytes) → IsStoreOf s st file → HasFrames s (texts.Flush st.version) st.tree → after_flush s st file ≡ Ok (now, bytes)
     → (store_of_disk bytes ≡ Ok (s, now)) × IsStoreOf s now bytes)
     → after_flush old.settings old.store (view old.disk).seen ≡ Ok (now.store, (view now.disk).seen)
-    → (flush_text old.store.version old.store.tree ≡ [] → now ≡ old)
-    → (flush_text old.store.version old.store.tree ≢ [] → IsSettled (view now.disk))
-    → (store_of_disk (view now.disk).seen ≡ Ok (old.settings, now.store)) × IsSettled (view now.disk)
-filled {D = D} view old now sound fine settled frames read after same written = (
-  (read old.settings old.store now.store (view old.disk).seen (view now.disk).seen (record { is = sound.is; step = sound.step fine settled.honest }) frames after).0,
-  settled_by view (flush_text old.store.version old.store.tree) old.disk now.disk (λ none. ap (λ (x : State D). x.disk) (same none)) written settled,
+    → (flush_frames old.store.version old.store.tree ≡ [] → now ≡ old)
+    → (flush_frames old.store.version old.store.tree ≢ [] → IsSynced (view now.disk))
+    → (store_of_disk (view now.disk).seen ≡ Ok (old.settings, now.store)) × IsSynced (view now.disk)
+filled {D = D} view old now sound fine is_synced frames read after same written = (
+  (read old.settings old.store now.store (view old.disk).seen (view now.disk).seen (record { is = sound.is; step = sound.step fine is_synced.honest }) frames after).0,
+  settled_by view (flush_frames old.store.version old.store.tree) old.disk now.disk (λ none. ap (λ (x : State D). x.disk) (same none)) written is_synced,
 )
 
 -- ---- a store that was filled and flushed
@@ -124,11 +124,11 @@ module _ {D : Type 0} (view : D → View) (failed : D → ℕ) (old mid now : St
       → ((s : Settings) (st now : Store) (file bytes : Bytes) → IsStoreOf s st file → HasFrames s (texts.Flush st.version) st.tree → after_flush s st file ≡ Ok (now, bytes)
       → (store_of_disk bytes ≡ Ok (s, now)) × IsStoreOf s now bytes)
       → (IsTrue (view mid.disk).is_honest → after_flush mid.settings mid.store (view mid.disk).seen ≡ Ok (now.store, (view now.disk).seen))
-      → (mid.has_failed ≡ false → flush_text mid.store.version mid.store.tree ≡ [] → now ≡ mid)
-      → (IsTrue (view mid.disk).is_honest → flush_text mid.store.version mid.store.tree ≢ [] → IsSettled (view now.disk))
-      → IsSettled (view old.disk) → (store_of_disk (view now.disk).seen ≡ Ok (old.settings, now.store)) × IsSettled (view now.disk)
-  fill_bytes fine sound frames read after same written settled =
-      let there : IsSettled (view mid.disk) = subst (λ (d : D). IsSettled (view d)) (sym rest.1) settled in
+      → (mid.has_failed ≡ false → flush_frames mid.store.version mid.store.tree ≡ [] → now ≡ mid)
+      → (IsTrue (view mid.disk).is_honest → flush_frames mid.store.version mid.store.tree ≢ [] → IsSynced (view now.disk))
+      → IsSynced (view old.disk) → (store_of_disk (view now.disk).seen ≡ Ok (old.settings, now.store)) × IsSynced (view now.disk)
+  fill_bytes fine sound frames read after same written is_synced =
+      let there : IsSynced (view mid.disk) = subst (λ (d : D). IsSynced (view d)) (sym rest.1) is_synced in
       let good : mid.has_failed ≡ false = rest.2 ∙ fine in
       let both = filled view mid now sound good there frames read (after there.honest) (λ none. same good none) (λ some. written there.honest some) in (
         subst (λ (s : Settings). store_of_disk (view now.disk).seen ≡ Ok (s, now.store)) rest.0 both.0,
@@ -141,15 +141,15 @@ module _ {D : Type 0} (view : D → View) (failed : D → ℕ) (old mid now : St
 stands : {D : Type 0} (view : D → View) (x : State D) → IsSound view x → x.has_failed ≡ false → IsTrue (view x.disk).is_honest → HoldsSomeStore (view x.disk).seen
 stands view x sound fine honest = let step = sound.step fine honest in ((x.settings, step.0), step.1)
 
-pub unfilled_leaves : {D : Type 0} (view : D → View) (x : State D) (new : D) → Lawful (view x.disk) → IsSound view x → x.has_failed ≡ false → IsSettled (view x.disk) → new ≡ x.disk → LeavesOnly (view x.disk) (view new) HoldsSomeStore
-unfilled_leaves {D = D} view x new law sound fine settled same =
+pub unfilled_leaves : {D : Type 0} (view : D → View) (x : State D) (new : D) → Lawful (view x.disk) → IsSound view x → x.has_failed ≡ false → IsSynced (view x.disk) → new ≡ x.disk → LeavesOnly (view x.disk) (view new) HoldsSomeStore
+unfilled_leaves {D = D} view x new law sound fine is_synced same =
     subst (λ (d : D). LeavesOnly (view x.disk) (view d) HoldsSomeStore) (sym same)
-    (none_leaves (view x.disk) HoldsSomeStore law settled (stands view x sound fine settled.honest))
+    (none_leaves (view x.disk) HoldsSomeStore law is_synced (stands view x sound fine is_synced.honest))
 
-module _ {D : Type 0} (view : D → View) (mid now : State D) (sound : IsSound view mid) (fine : mid.has_failed ≡ false) (settled : IsSettled (view mid.disk))
+module _ {D : Type 0} (view : D → View) (mid now : State D) (sound : IsSound view mid) (fine : mid.has_failed ≡ false) (is_synced : IsSynced (view mid.disk))
     (run : LeavesOnly (view mid.disk) (view now.disk) (λ c. (store_of_disk c ≡ store_of_disk (view mid.disk).seen) ⊎ ((after : Store) × (after_flush mid.settings mid.store (view mid.disk).seen ≡ Ok (after, c))))) where
   same_store : (c : Bytes) → store_of_disk c ≡ store_of_disk (view mid.disk).seen → HoldsSomeStore c
-  same_store c same = let there = stands view mid sound fine settled.honest in (there.0, same ∙ there.1)
+  same_store c same = let there = stands view mid sound fine is_synced.honest in (there.0, same ∙ there.1)
 
   -- the store before, or the one after
   pub flush_leaves : HasFrames mid.settings (texts.Flush mid.store.version) mid.store.tree
@@ -160,7 +160,7 @@ module _ {D : Type 0} (view : D → View) (mid now : State D) (sound : IsSound v
       weaker (view mid.disk) (view now.disk) (λ c. (store_of_disk c ≡ store_of_disk (view mid.disk).seen) ⊎ ((after : Store) × (after_flush mid.settings mid.store (view mid.disk).seen ≡ Ok (after, c)))) HoldsSomeStore
       (λ c left. ⊎_elim
       (λ same. same_store c same)
-      (λ done. ((mid.settings, done.0), (read mid.settings mid.store done.0 (view mid.disk).seen c (record { is = sound.is; step = sound.step fine settled.honest }) frames done.1).0))
+      (λ done. ((mid.settings, done.0), (read mid.settings mid.store done.0 (view mid.disk).seen c (record { is = sound.is; step = sound.step fine is_synced.honest }) frames done.1).0))
       left)
       run
 
@@ -178,7 +178,7 @@ module _ {D : Type 0} (view : D → View) (mid now : State D) (sound : IsSound v
       not_both : {X : Type 0} (r : Result X Fault) (f : Fault) (x : X) → r ≡ Err f → r ≡ Ok x → ⊥
       not_both r f x err ok = absurd (cc)
   refused_leaves fault old new law frames read same (inr (inl (memory, due))) =
-      unfilled_leaves view mid now.disk law sound fine settled (ap (λ (x : State D). x.disk) (same (λ device. absurd (never (sym memory ∙ device)))))
+      unfilled_leaves view mid now.disk law sound fine is_synced (ap (λ (x : State D). x.disk) (same (λ device. absurd (never (sym memory ∙ device)))))
     where
       never : NoMemory ≡ Device → ⊥
       never e = absurd (cc)
@@ -219,12 +219,12 @@ made_back view (Ok x) disk mid kept back = tt
 made_back view (Err e) disk mid kept back = kept_then (view disk) (view mid) (view e.1) kept back.0
 
 -- the disk that is handed back has no store
-pub made_left : {X D : Type 0} (view : D → View) (r : Result X (Fault × D)) (disk mid : D) (H : Type 0) → (H → HoldsNoStore (view mid).seen) → (H → IsSettled (view mid))
+pub made_left : {X D : Type 0} (view : D → View) (r : Result X (Fault × D)) (disk mid : D) (H : Type 0) → (H → HoldsNoStore (view mid).seen) → (H → IsSynced (view mid))
     → IfErr r (λ e. Kept (view mid) (view e.1) × (e.0 ≢ Device → e.1 ≡ mid))
-    → IfErr r (λ e. e.0 ≢ Device → (e.1 ≡ disk) ⊎ (H → (store_of_disk (view e.1).seen ≡ Err NotAStore) × IsSettled (view e.1)))
-made_left view (Ok x) disk mid H hidden settled back = tt
-made_left {D = D} view (Err e) disk mid H hidden settled back = λ other. inr (λ h.
-    subst (λ (d : D). (store_of_disk (view d).seen ≡ Err NotAStore) × IsSettled (view d)) (sym (back.1 other)) (no_store (view mid).seen (hidden h), settled h))
+    → IfErr r (λ e. e.0 ≢ Device → (e.1 ≡ disk) ⊎ (H → (store_of_disk (view e.1).seen ≡ Err NotAStore) × IsSynced (view e.1)))
+made_left view (Ok x) disk mid H hidden is_synced back = tt
+made_left {D = D} view (Err e) disk mid H hidden is_synced back = λ other. inr (λ h.
+    subst (λ (d : D). (store_of_disk (view d).seen ≡ Err NotAStore) × IsSynced (view d)) (sym (back.1 other)) (no_store (view mid).seen (hidden h), is_synced h))
 
 pub made_ok : {D Y : Type 0} (view : D → View) (failed : D → ℕ) (r : Result (State D) Y) (disk mid : D) (s t : Settings) → s ≡ t → Kept (view disk) (view mid) → failed mid ≡ failed disk
     → IfOk r (λ copy. (copy.settings ≡ s) × (copy.has_failed ≡ false))
@@ -235,7 +235,7 @@ made_ok view failed (Ok copy) disk mid s t same kept count made further =
 made_ok view failed (Err e) disk mid s t same kept count made further = (tt, tt)
 
 pub made_bytes : {D Y : Type 0} (view : D → View) (r : Result (State D) Y) (s t : Settings) → s ≡ t
-    → IfOk r (λ copy. (store_of_disk (view copy.disk).seen ≡ Ok (s, copy.store)) × IsSettled (view copy.disk))
-    → IfOk r (λ copy. (store_of_disk (view copy.disk).seen ≡ Ok (t, copy.store)) × IsSettled (view copy.disk))
+    → IfOk r (λ copy. (store_of_disk (view copy.disk).seen ≡ Ok (s, copy.store)) × IsSynced (view copy.disk))
+    → IfOk r (λ copy. (store_of_disk (view copy.disk).seen ≡ Ok (t, copy.store)) × IsSynced (view copy.disk))
 made_bytes view (Ok copy) s t same bytes = (subst (λ (x : Settings). store_of_disk (view copy.disk).seen ≡ Ok (x, copy.store)) same bytes.0, bytes.1)
 made_bytes view (Err e) s t same bytes = tt

@@ -7,7 +7,7 @@ use Rattle.keys.specs.declared.fault.Fault.TheVariants.{Device, NoMemory}
 use Rattle.keys.specs.declared.settings.Settings.{Settings}
 use Rattle.mapping.specs.Tree.{Store}
 use Rattle.flush_log.specs.Disk.{View, Lawful}
-use Rattle.flush_log.specs.FlushText.{flush_text}
+use Rattle.flush_log.specs.FlushText.{flush_frames}
 use Rattle.cleaner.specs.PagesRead.{PagesRead}
 use Rattle.flush_log.proofs.SameLemmas.{leaves_the_same}
 use Rattle.engine.specs.Cleaning.{IsEarly, IsHeld, IsOfBytes, IsOfMachine, IsStoppedCleaning, most_ahead, most_cleanable}
@@ -99,7 +99,7 @@ module _ {D : Type 0} (view : D → View) (failures : D → ℕ) where
   held_by cur next most is Why (Err fault) h limit live = tt
 
   -- a row of cleans that is worth its cost is early
-  pub is_early : (cur next : State D) (live : ℕ) → IsOnlyRead view failures cur next → (is_tight cur.settings cur.store ≡ true) × (flush_text cur.store.version cur.store.tree ≢ [])
+  pub is_early : (cur next : State D) (live : ℕ) → IsOnlyRead view failures cur next → (is_tight cur.settings cur.store ≡ true) × (flush_frames cur.store.version cur.store.tree ≢ [])
       → IsOfBytes view cur (λ s st file. live_known s st file ≡ Some live) → (is_worth next.settings next.store live ≡ true) × (is_overfull next.settings next.store live ≡ false) → IsOfBytes view cur IsEarly
   is_early cur next live only (tight, due) (file, shown, known) (worth, roomy) = (
     file,
@@ -134,7 +134,7 @@ module _ {D : Type 0} (view : D → View) (failures : D → ℕ) (lawful : (disk
         counted = λ _. (refl, refl);
         same = λ honest _. only.same honest;
         device = λ device. absurd (is_other fault memory device);
-        crash = λ _ settled. leaves_the_same (view x.disk) (view x.disk) _ (lawful x.disk settled.honest) (only.same settled.honest) settled (inl refl);
+        crash = λ _ is_synced. leaves_the_same (view x.disk) (view x.disk) _ (lawful x.disk is_synced.honest) (only.same is_synced.honest) is_synced (inl refl);
         sound = sound;
       }
 
@@ -142,7 +142,7 @@ module _ {D : Type 0} (view : D → View) (failures : D → ℕ) (lawful : (disk
   memory_on x r fault memory sound held = stopped_on view failures lawful x 0 x (none_on view failures lawful x) x fault (refused_clean x r fault memory sound held)
 
   -- a flush is refused for lack of memory before any clean
-  no_memory : (old : State D) → IsSound view old → flush_text old.store.version old.store.tree ≢ [] → IsStoppedCleaning view failures old old NoMemory
+  no_memory : (old : State D) → IsSound view old → flush_frames old.store.version old.store.tree ≢ [] → IsStoppedCleaning view failures old old NoMemory
   no_memory old sound due =
       let done = none_cleaned view failures lawful old sound in
       let only = not_read view failures old sound in
@@ -165,9 +165,9 @@ module _ {D : Type 0} (view : D → View) (failures : D → ℕ) (lawful : (disk
         step = Flush;
         why = ((view old.disk).seen, λ honest. done.turn.bytes honest, inl (refl, inr (inl (refl, due))));
         crash = λ fine was. crash_on view failures lawful old (cleans 0) done.said old done.turn old Flush
-            (λ _ settled. leaves_the_same (view old.disk) (view old.disk) _ (lawful old.disk settled.honest) (only.same settled.honest) settled (inl refl)) fine was;
+            (λ _ is_synced. leaves_the_same (view old.disk) (view old.disk) _ (lawful old.disk is_synced.honest) (only.same is_synced.honest) is_synced (inl refl)) fine was;
       }
 
-  pub stopped_at_once : (old now : State D) (fault : Fault) → IsSound view old → (fault ≡ NoMemory) × (now ≡ old) × (flush_text old.store.version old.store.tree ≢ []) → IsStoppedCleaning view failures old now fault
+  pub stopped_at_once : (old now : State D) (fault : Fault) → IsSound view old → (fault ≡ NoMemory) × (now ≡ old) × (flush_frames old.store.version old.store.tree ≢ []) → IsStoppedCleaning view failures old now fault
   stopped_at_once old now fault sound (memory, same, due) =
       subst (λ (f : Fault). IsStoppedCleaning view failures old now f) (sym memory) (subst (λ (x : State D). IsStoppedCleaning view failures old x NoMemory) (sym same) (no_memory old sound due))

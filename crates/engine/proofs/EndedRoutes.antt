@@ -23,7 +23,7 @@ use Rattle.routing.specs.Routes.{Route}
 use Rattle.page_runs.specs.Replies.{ArePlacesOf}
 use Rattle.page_runs.proofs.EndedBatch.{net_run-with_ends}
 use Rattle.replies.specs.ByPlace.{joined_replies, joined_replies_at, reply_at, pieces_at, is_rows, is_count, AreAnswers}
-use Rattle.split_plan.specs.WorkedLevel.{worked_leaves}
+use Rattle.split_plan.specs.UpdatedLevel.{updated_leaves}
 use Rattle.climb_plan.specs.Climb.{Climbed, climb}
 use Rattle.climb_plan.specs.Plan.{shrunk_levels, shrunk_pids, planned_tree}
 
@@ -39,7 +39,7 @@ Changes = List (List ℕ × Option (List ℕ))
 abbrev pub tree_by : Settings → Tree → Changes → Tree
 tree_by s t run =
     let l = levels_of t in
-    let c : Climbed (List ℕ) = climb s (keys_of t.pages) 0 (worked_leaves s run l.level) l.above in
+    let c : Climbed (List ℕ) = climb s (keys_of t.pages) 0 (updated_leaves s run l.level) l.above in
     let after = shrunk_levels c in
     record {
       pages = by_pid (all_pages after);

@@ -7,7 +7,7 @@ use Rattle.keys.specs.declared.settings.Settings.{Settings}
 use Rattle.keys.specs.declared.fault.Fault.{Fault}
 use Rattle.index_page.specs.Page.PageOfKind.{Leaf}
 use Rattle.mapping.specs.Tree.{Tree}
-use Rattle.page_runs.specs.LeafWork.{LeafHeld, LeafWorked}
+use Rattle.page_runs.specs.LeafWork.{LeafHeld, LeafUpdate}
 use Rattle.climb_plan.specs.declared.refused.Refused.{Refused}
 use Rattle.climb_plan.specs.declared.refused.Refused.TheVariants.{NoMemory, TooHigh}
 use Rattle.climb_plan.specs.Changing.{SeenPage, page_seen}
@@ -15,19 +15,19 @@ use Rattle.climb_plan.specs.Plan.{planned_tree}
 use Rattle.engine.specs.Batch.{IsLaterFault, fault_by}
 use Rattle.engine.specs.Leaves.{without_answers}
 
-abbrev pub held_all : List LeafWorked → List LeafHeld
+abbrev pub held_all : List LeafUpdate → List LeafHeld
 held_all ds = map (λ d. d.held) ds
 
-abbrev pub seen_leaves : List LeafWorked → List SeenPage
-seen_leaves ds = map (λ d. page_seen Leaf d.made.worked) ds
+abbrev pub seen_leaves : List LeafUpdate → List SeenPage
+seen_leaves ds = map (λ d. page_seen Leaf d.made.updated) ds
 
-pub held_without : (ds : List LeafWorked) → held_all (map without_answers ds) ≡ held_all ds
+pub held_without : (ds : List LeafUpdate) → held_all (map without_answers ds) ≡ held_all ds
 held_without [] = refl
 held_without (d ∷ ds) = ap (λ (hs : List LeafHeld). d.held ∷ hs) (held_without ds)
 
-pub seen_without : (ds : List LeafWorked) → seen_leaves (map without_answers ds) ≡ seen_leaves ds
+pub seen_without : (ds : List LeafUpdate) → seen_leaves (map without_answers ds) ≡ seen_leaves ds
 seen_without [] = refl
-seen_without (d ∷ ds) = ap (λ (xs : List SeenPage). page_seen Leaf d.made.worked ∷ xs) (seen_without ds)
+seen_without (d ∷ ds) = ap (λ (xs : List SeenPage). page_seen Leaf d.made.updated ∷ xs) (seen_without ds)
 
 -- what a refused climb is answered by
 pub fault_is : (s : Settings) (P : Tree → List (Command Global) → Type 0) (r : Refused) (fault : Fault) → fault ≡ fault_by r → ((t : Tree) (cs : List (Command Global)) → P t cs → r ≡ TooHigh → 64 < (planned_tree s t cs).height)

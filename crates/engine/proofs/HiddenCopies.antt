@@ -7,7 +7,7 @@ use Rattle.keys.specs.declared.fault.Fault.TheVariants.{Device}
 use Rattle.keys.specs.declared.settings.Settings.{Settings}
 use Rattle.mapping.specs.Levels.{contents}
 use Rattle.mapping.specs.Tree.{Store}
-use Rattle.flush_log.specs.Disk.{View, IsSettled, Kept, LeavesOnly}
+use Rattle.flush_log.specs.Disk.{View, IsSynced, Kept, LeavesOnly}
 use Rattle.flush_log.proofs.ViewLemmas.{only_then, weaker}
 use Rattle.recovery.specs.Recovered.{IsLate}
 use Rattle.recovery.specs.StoreOfDisk.{store_of_disk}
@@ -73,10 +73,10 @@ module _ {D : Type 0} (view : D → View) (failed : D → ℕ) (s : Settings) (a
       if_ok r (λ x. Kept (view mid) (view x.disk) × (failed x.disk ≡ failed mid)) (λ x. Kept (view mid) (view x.disk) × (failed x.disk ≡ failed mid)) (λ copy. Kept (view old) (view copy.disk) × (failed copy.disk ≡ failed old))
       (λ x h k. (kept_then (view old) (view mid) (view x.disk) (kept_below (view old) (view mid) kept) h.0, h.1 ∙ count)) further further
 
-  pub shown_bytes : settings ≡ s → store_of_disk (exchanged (view mid).seen) ≡ Ok (settings, whole) → IfOk r Same → IfOk r (λ x. ((view x.disk).seen ≡ revealed (view mid).seen) × IsSettled (view x.disk))
-      → IfOk r (λ copy. (store_of_disk (view copy.disk).seen ≡ Ok (s, copy.store)) × IsSettled (view copy.disk))
+  pub shown_bytes : settings ≡ s → store_of_disk (exchanged (view mid).seen) ≡ Ok (settings, whole) → IfOk r Same → IfOk r (λ x. ((view x.disk).seen ≡ revealed (view mid).seen) × IsSynced (view x.disk))
+      → IfOk r (λ copy. (store_of_disk (view copy.disk).seen ≡ Ok (s, copy.store)) × IsSynced (view copy.disk))
   shown_bytes is stands same bytes =
-      if_ok r Same (λ x. ((view x.disk).seen ≡ revealed (view mid).seen) × IsSettled (view x.disk)) (λ copy. (store_of_disk (view copy.disk).seen ≡ Ok (s, copy.store)) × IsSettled (view copy.disk))
+      if_ok r Same (λ x. ((view x.disk).seen ≡ revealed (view mid).seen) × IsSynced (view x.disk)) (λ copy. (store_of_disk (view copy.disk).seen ≡ Ok (s, copy.store)) × IsSynced (view copy.disk))
       (λ x h k. (
         ap (λ (f : Bytes). store_of_disk f) (k.0 ∙ shown_is (view mid).seen (settings, whole) stands)
             ∙ subst (λ (t : Settings). store_of_disk (exchanged (view mid).seen) ≡ Ok (t, x.store)) is (subst (λ (st : Store). store_of_disk (exchanged (view mid).seen) ≡ Ok (settings, st)) (sym h.1) stands),

@@ -5,7 +5,7 @@ use Rattle.std.proofs.lemmas.Bool.{cases_eq}
 use Rattle.keys.specs.declared.fault.Fault.TheVariants.{NotAStore}
 use Rattle.keys.specs.declared.settings.Settings.{Settings}
 use Rattle.flush_log.specs.Overlay.{overlay, IsBeside, AgreeAt}
-use Rattle.flush_log.specs.Disk.{View, Lawful, IsSettled, Torn, Same, Elapses, Leaves, LeavesOnly}
+use Rattle.flush_log.specs.Disk.{View, Lawful, IsSynced, Torn, Same, Elapses, Leaves, LeavesOnly}
 use Rattle.flush_log.proofs.ViewLemmas.{then, leaves_only}
 use Rattle.flush_log.specs.SettingsBlock.{store_magic, read_settings, where_it_has_room}
 use Rattle.flush_log.proofs.OverlayLemmas.{length-overlay, overlay-at, overlay-beside, overlay-is}
@@ -157,10 +157,10 @@ leaves_one a b at n first more one =
 pub synced_exchanged : (a b : View) → Leaves a b (λ before c. c ≡ before) → Leaves (exchanged_view a) (exchanged_view b) (λ before c. c ≡ before)
 synced_exchanged a b run = leaves_exchanged a b (λ before c. c ≡ before) (λ d e is. ap exchanged is) run
 
-pub settled_exchanged : (v : View) → IsSettled v → IsSettled (exchanged_view v)
-settled_exchanged v settled = record {
-  honest = settled.honest;
-  only = λ c left. left.2 ∙ ap exchanged (settled.only left.0 left.1);
+pub settled_exchanged : (v : View) → IsSynced v → IsSynced (exchanged_view v)
+settled_exchanged v is_synced = record {
+  honest = is_synced.honest;
+  only = λ c left. left.2 ∙ ap exchanged (is_synced.only left.0 left.1);
 }
 
 -- ---- and what is known of a disk by what is seen of it
@@ -168,10 +168,10 @@ settled_exchanged v settled = record {
 exchanged_same : (c d : List ℕ) → exchanged c ≡ exchanged d → c ≡ d
 exchanged_same c d same = sym (bytes_back c) ∙ ap exchanged same ∙ bytes_back d
 
-pub settled_back : (v : View) → IsSettled (exchanged_view v) → IsSettled v
-settled_back v settled = record {
-  honest = settled.honest;
-  only = λ c left. exchanged_same c v.seen (settled.only (exchanged c) (c, left, refl));
+pub settled_back : (v : View) → IsSynced (exchanged_view v) → IsSynced v
+settled_back v is_synced = record {
+  honest = is_synced.honest;
+  only = λ c left. exchanged_same c v.seen (is_synced.only (exchanged c) (c, left, refl));
 }
 
 pub only_back : (a b : View) (P : List ℕ → Type 0) → LeavesOnly (exchanged_view a) (exchanged_view b) P → LeavesOnly a b (λ c. P (exchanged c))
@@ -214,23 +214,23 @@ torn_away file c store torn = elim (cases_eq (get_or c 0 0) 66) [
     each zero same = same ∙ sym store
     each (suc i) same = torn.same (suc i) (inr (omega arith))
 
-module _ (old new : View) (settled : IsSettled old) where
+module _ (old new : View) (is_synced : IsSynced old) where
   pub store_hidden : get_or old.seen 0 0 ≡ 66 → Leaves old new (Torn 0 1) → LeavesOnly old new (IsLeftHiding old.seen)
   store_hidden store run =
       leaves_only old new (Torn 0 1) (IsLeftHiding old.seen)
-      (λ d c might torn. torn_away old.seen c store (subst (λ (f : List ℕ). Torn 0 1 f c) (settled.only d might) torn)) run
+      (λ d c might torn. torn_away old.seen c store (subst (λ (f : List ℕ). Torn 0 1 f c) (is_synced.only d might) torn)) run
 
   -- the first byte of no store stays while others are written
   pub others_written : (n : ℕ) → get_or old.seen 0 0 ≢ 66 → Leaves old new (Torn 1 n) → LeavesOnly old new HoldsNoStore
   others_written n other run =
       leaves_only old new (Torn 1 n) HoldsNoStore
-      (λ d c might torn. first_other c (λ is. other (sym (torn.same 0 (inl (omega arith)) ∙ ap (λ (f : List ℕ). get_or f 0 0) (settled.only d might)) ∙ is))) run
+      (λ d c might torn. first_other c (λ is. other (sym (torn.same 0 (inl (omega arith)) ∙ ap (λ (f : List ℕ). get_or f 0 0) (is_synced.only d might)) ∙ is))) run
 
   -- while the second byte is 0 the first may be any
   pub first_written : get_or old.seen 1 0 ≡ 0 → Leaves old new (Torn 0 1) → LeavesOnly old new HoldsNoStore
   first_written none run =
       leaves_only old new (Torn 0 1) HoldsNoStore
-      (λ d c might torn. second_other c (λ is. absurd (second (torn.same 1 (inr (omega arith)) ∙ ap (λ (f : List ℕ). get_or f 1 0) (settled.only d might) ∙ none) is))) run
+      (λ d c might torn. second_other c (λ is. absurd (second (torn.same 1 (inr (omega arith)) ∙ ap (λ (f : List ℕ). get_or f 1 0) (is_synced.only d might) ∙ none) is))) run
     where
       second : {b : ℕ} → b ≡ 0 → b ≡ 87 → ⊥
       second nothing is = omega (arith, nothing, is)
@@ -239,7 +239,7 @@ module _ (old new : View) (settled : IsSettled old) where
   pub store_revealed : 1 ≤ length old.seen → Leaves old new (Torn 0 1) → LeavesOnly old new (IsLeftRevealing old.seen)
   store_revealed some run =
       leaves_only old new (Torn 0 1) (IsLeftRevealing old.seen)
-      (λ d c might torn. by old.seen c some (subst (λ (f : List ℕ). Torn 0 1 f c) (settled.only d might) torn)) run
+      (λ d c might torn. by old.seen c some (subst (λ (f : List ℕ). Torn 0 1 f c) (is_synced.only d might) torn)) run
     where
       by : (file c : List ℕ) → 1 ≤ length file → Torn 0 1 file c → IsLeftRevealing file c
       by file c some torn = elim (cases_eq (get_or c 0 0) 66) [

@@ -7,7 +7,7 @@ use Rattle.keys.specs.declared.fault.Fault.TheVariants.{Device}
 use Rattle.keys.specs.declared.settings.Settings.{Settings}
 use Rattle.mapping.specs.Levels.{contents}
 use Rattle.mapping.specs.Tree.{Store}
-use Rattle.flush_log.specs.Disk.{View, IsSettled, Kept, LeavesOnly}
+use Rattle.flush_log.specs.Disk.{View, IsSynced, Kept, LeavesOnly}
 use Rattle.flush_log.specs.NewStore.{disk_of_new}
 use Rattle.recovery.specs.Recovered.{IsLate}
 use Rattle.recovery.specs.StoreOfDisk.{first_store}
@@ -55,10 +55,10 @@ module _ {D : Type 0} (view : D → View) (failed : D → ℕ) (settings : Setti
     shown : exchanged (view mid).seen ≡ disk_of_new s (view old).seen
     shown = after_create_is s (view old).seen store (exchanged (view mid).seen) after
 
-    pub revealed_bytes : IfOk r Same → IfOk r (λ x. ((view x.disk).seen ≡ revealed (view mid).seen) × IsSettled (view x.disk))
-        → IfOk r (λ made. (after_create s (view old).seen ≡ Ok (made.store, (view made.disk).seen)) × IsSettled (view made.disk))
+    pub revealed_bytes : IfOk r Same → IfOk r (λ x. ((view x.disk).seen ≡ revealed (view mid).seen) × IsSynced (view x.disk))
+        → IfOk r (λ made. (after_create s (view old).seen ≡ Ok (made.store, (view made.disk).seen)) × IsSynced (view made.disk))
     revealed_bytes same bytes =
-        if_ok r Same (λ x. ((view x.disk).seen ≡ revealed (view mid).seen) × IsSettled (view x.disk)) (λ made. (after_create s (view old).seen ≡ Ok (made.store, (view made.disk).seen)) × IsSettled (view made.disk))
+        if_ok r Same (λ x. ((view x.disk).seen ≡ revealed (view mid).seen) × IsSynced (view x.disk)) (λ made. (after_create s (view old).seen ≡ Ok (made.store, (view made.disk).seen)) × IsSynced (view made.disk))
         (λ x h k. (
           subst (λ (file : Bytes). after_create s (view old).seen ≡ Ok (x.store, file)) (sym (k.0 ∙ revealed_is (view mid).seen (exchanged (view mid).seen) refl (ap (λ (f : Bytes). get_or f 0 0) shown ∙ new_first s (view old).seen)))
               (subst (λ (st : Store). after_create s (view old).seen ≡ Ok (st, exchanged (view mid).seen)) (sym h.1) after),

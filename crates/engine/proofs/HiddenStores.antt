@@ -9,7 +9,7 @@ use Rattle.keys.specs.declared.settings.Settings.{Settings}
 use Rattle.keys.specs.declared.version.Version.{Version}
 use Rattle.mapping.specs.Tree.{Store}
 use Rattle.mapping.specs.TreeInMemory.{TreeInMemory}
-use Rattle.flush_log.specs.Disk.{View, Lawful, IsSettled, Kept, LeavesOnly}
+use Rattle.flush_log.specs.Disk.{View, Lawful, IsSynced, Kept, LeavesOnly}
 use Rattle.flush_log.specs.NewStore.{disk_of_new}
 use Rattle.flush_log.specs.Segments.{disk_size}
 use Rattle.flush_log.specs.declared.slot.LogEnds.{LogEnds}
@@ -51,10 +51,10 @@ new_first s disk = refl
 -- ---- crashes
 
 -- without a call a settled disk stays
-pub none_leaves : (v : View) (P : Bytes → Type 0) → Lawful v → IsSettled v → P v.seen → LeavesOnly v v P
-none_leaves v P law settled here = record {
+pub none_leaves : (v : View) (P : Bytes → Type 0) → Lawful v → IsSynced v → P v.seen → LeavesOnly v v P
+none_leaves v P law is_synced here = record {
   later = omega arith;
-  each = λ c left. subst P (sym (settled.only c (law.only_now c left))) here;
+  each = λ c left. subst P (sym (is_synced.only c (law.only_now c left))) here;
   before = λ t c le left. inl left;
 }
 

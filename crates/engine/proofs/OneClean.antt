@@ -6,7 +6,7 @@ use Rattle.keys.specs.declared.fault.Fault.TheVariants.{Device}
 use Rattle.keys.specs.declared.settings.Settings.{Settings}
 use Rattle.keys.specs.declared.version.Version.{Version}
 use Rattle.mapping.specs.Tree.{Store}
-use Rattle.flush_log.specs.Disk.{View, IsSettled, Kept, Same, LeavesOnly}
+use Rattle.flush_log.specs.Disk.{View, IsSynced, Kept, Same, LeavesOnly}
 use Rattle.flush_log.specs.Ends.{ends_of}
 use Rattle.flush_log.specs.Segments.{disk_size}
 use Rattle.flush_log.specs.declared.slot.LogEnds.{LogEnds}
@@ -52,22 +52,22 @@ module _ {D : Type 0} (view : D → View) (failures : D → ℕ) (s : Settings) 
     }
 
     -- a crash leaves the store before, or all that the clean leaves
-    module _ (crash : IsSettled (view old) → IsInStep s st (view old).seen
+    module _ (crash : IsSynced (view old) → IsInStep s st (view old).seen
         → LeavesOnly (view old) (view new) (λ c. (store_of_disk c ≡ store_of_disk (view old).seen) ⊎ ((now : Store) × (after_clean s st (view old).seen ≡ Ok (now, c))))) where
       -- it was done
       pub one_done : (now : Store) (head : ℕ) → head ≡ now.head
           → (file : List ℕ) × IsReadOf (view old) file × (bytes : List ℕ) × (after_clean s st file ≡ Ok (now, bytes))
           → (IsTrue (view old).is_honest → after_clean s st (view old).seen ≡ Ok (now, (view new).seen))
           → failures new ≡ failures old
-          → (IsTrue (view old).is_honest → IsSettled (view new))
+          → (IsTrue (view old).is_honest → IsSynced (view new))
           → IsSound view (record { settings = s; store = now; disk = new; has_failed = failed })
           → IsDoneClean view failures before (record { settings = s; store = now; disk = new; has_failed = failed }) head
-      one_done now head is (file, read, bytes, done) wrote counted settled sound = record {
+      one_done now head is (file, read, bytes, done) wrote counted is_synced sound = record {
         step = (bytes, record { file = file; shown = read.honest; done = clean_done s st now file Clean bytes head refl is done; words = tt });
         rest = (refl, keeps);
         counted = (refl, counted);
         bytes = λ honest. clean_done s st now (view old).seen Clean (view new).seen head refl is (wrote honest);
-        settled = λ still. settled still.honest;
+        is_synced = λ still. is_synced still.honest;
         crash = λ _ still. weaker (view old) (view new) _ _ (λ c left. clean_left s st (view old).seen Clean refl c left) (crash still (was.step fine still.honest));
         sound = sound;
       }

@@ -17,11 +17,11 @@ use Rattle.mapping.specs.Tree.{Tree}
 use Rattle.mapping.specs.TreeInMemory.{TreeInMemory, AreAllHome, tree_of}
 use Rattle.replies.specs.ByPlace.{most_counted, reply_at, AreAnswers}
 use Rattle.routing.specs.Routes.{Route, routes}
-use Rattle.page_runs.specs.LeafWork.{LeafHeld, LeafMade, LeafWorked, IsLeafHeld, leaf_made, leaf_answers}
+use Rattle.page_runs.specs.LeafWork.{LeafHeld, LeafMade, LeafUpdate, IsLeafHeld, leaf_made, leaf_answers}
 use Rattle.page_runs.specs.NetRun.{net_run}
 use Rattle.page_runs.specs.Reads.{IsRouteToRead, is_only_read, answers_at, route_answers}
 use Rattle.page_runs.proofs.ReadLemmas.{net_run-looks}
-use Rattle.page_runs.specs.Worked.{Worked, is_thin_class, is_fat_class}
+use Rattle.page_runs.specs.Updated.{Updated, is_thin_class, is_fat_class}
 use Rattle.climb_plan.specs.Changing.{page_seen}
 use Rattle.climb_plan.specs.Installing.{all_taken, all_put, page_or_none}
 use Rattle.climb_plan.specs.Ready.{IsReady}
@@ -92,9 +92,9 @@ module _ (s : Settings) (m : TreeInMemory) (cs : List (Command Global)) (sound :
   abbrev without : TreeInMemory
   without = record m { table = with_place m.table r.pid None }
 
-  ready_without : IsReady s (tree_of m) cs without (page_seen Leaf (leaf_made s cs (leaf_held m.table r)).worked ∷ [])
+  ready_without : IsReady s (tree_of m) cs without (page_seen Leaf (leaf_made s cs (leaf_held m.table r)).updated ∷ [])
   ready_without =
-      subst (λ (rs : List Route). IsReady s (tree_of m) cs (record m { table = all_taken m.table (route_pids rs) }) (map (λ d. page_seen Leaf d.worked) (leaves_made s cs m.table rs))) just_it
+      subst (λ (rs : List Route). IsReady s (tree_of m) cs (record m { table = all_taken m.table (route_pids rs) }) (map (λ d. page_seen Leaf d.updated) (leaves_made s cs m.table rs))) just_it
       (ready_here s m cs every sound (λ q h n. never h))
 
   away_without : place_of without.table r.pid ≡ Some None
@@ -115,18 +115,18 @@ module _ (s : Settings) (m : TreeInMemory) (cs : List (Command Global)) (sound :
     may_work = record { leaf = a_leaf (page_of m.table r.pid) page found there.home.0; places = there.places.0 }
 
     module _ (now : TreeInMemory) (taken : now ≡ without) where
-      module _ (d : LeafWorked) (of : d.held ≡ held) (made : d.made ≡ leaf_made s cs held) where
+      module _ (d : LeafUpdate) (of : d.held ≡ held) (made : d.made ≡ leaf_made s cs held) where
         made_is : d.made ≡ leaf_made s cs (leaf_held m.table r)
         made_is = made ∙ ap (λ (h : LeafHeld). leaf_made s cs h) (sym same_held)
 
         pub pieces_are : d.made.pieces ≡ (leaf_made s cs (leaf_held m.table r)).pieces
         pieces_are = ap (λ (x : LeafMade). x.pieces) made_is
 
-        pub ready : IsReady s (tree_of m) cs now (page_seen Leaf d.made.worked ∷ [])
+        pub ready : IsReady s (tree_of m) cs now (page_seen Leaf d.made.updated ∷ [])
         ready = rw (taken, made_is) ready_without
 
-        pub same_pid : d.made.worked.placed.pid ≡ d.held.route.pid
-        same_pid = ap (λ (x : LeafMade). x.worked.placed.pid) made ∙ ap (λ (h : LeafHeld). h.route.pid) (sym of)
+        pub same_pid : d.made.updated.placed.pid ≡ d.held.route.pid
+        same_pid = ap (λ (x : LeafMade). x.updated.placed.pid) made ∙ ap (λ (h : LeafHeld). h.route.pid) (sym of)
 
       -- its place is away
       pub away : (h : LeafHeld) → h ≡ held → place_of now.table h.route.pid ≡ Some None
@@ -148,20 +148,20 @@ quiet_by false true b h = absurd (cc)
 quiet_by false false true h = absurd (cc)
 
 -- a page that is quiet is seen so
-seen_quiet : (w : Worked (List ℕ)) → is_quiet w ≡ true → IsSeenQuiet (page_seen Leaf w)
+seen_quiet : (w : Updated (List ℕ)) → is_quiet w ≡ true → IsSeenQuiet (page_seen Leaf w)
 seen_quiet w h = let q = quiet_by w.replaced (is_thin_class w.class) (is_fat_class w.class) h in record { kept = q.0; small = q.1; same = q.2 }
 
 -- what holds of every plan for which the tree is ready
-abbrev pub ForReady : Settings → TreeInMemory → Worked (List ℕ) → (Tree → List (Command Global) → Type 0) → Type 0
+abbrev pub ForReady : Settings → TreeInMemory → Updated (List ℕ) → (Tree → List (Command Global) → Type 0) → Type 0
 ForReady s m w P = (t : Tree) (cs : List (Command Global)) → IsReady s t cs m (page_seen Leaf w ∷ []) → P t cs
 
-module _ (s : Settings) (m : TreeInMemory) (w v : Worked (List ℕ)) (same : v ≡ w) where
+module _ (s : Settings) (m : TreeInMemory) (w v : Updated (List ℕ)) (same : v ≡ w) where
   -- the same of the same leaf
   pub ready_still : (t : Tree) × (cs : List (Command Global)) × IsReady s t cs m (page_seen Leaf w ∷ []) → (t : Tree) × (cs : List (Command Global)) × IsReady s t cs m (page_seen Leaf v ∷ [])
-  ready_still h = (h.0, h.1, subst (λ (x : Worked (List ℕ)). IsReady s h.0 h.1 m (page_seen Leaf x ∷ [])) (sym same) h.2)
+  ready_still h = (h.0, h.1, subst (λ (x : Updated (List ℕ)). IsReady s h.0 h.1 m (page_seen Leaf x ∷ [])) (sym same) h.2)
 
   pub for_still : (P : Tree → List (Command Global) → Type 0) → ForReady s m v P → ForReady s m w P
-  for_still P f t cs r = f t cs (subst (λ (x : Worked (List ℕ)). IsReady s t cs m (page_seen Leaf x ∷ [])) (sym same) r)
+  for_still P f t cs r = f t cs (subst (λ (x : Updated (List ℕ)). IsReady s t cs m (page_seen Leaf x ∷ [])) (sym same) r)
 
   -- one that is quiet is put home, and that is the plan
   pub quiet_home : 1 < s.fan → is_quiet v ≡ true → (now : TreeInMemory) → now ≡ record m { table = with_place m.table v.placed.pid (Some (Leaf v.placed.page)) } → ForReady s m w (λ t cs. AreAllHome now × (tree_of now ≡ planned_tree s t cs))

@@ -9,7 +9,7 @@ use Rattle.keys.specs.declared.version.Version.{Version}
 use Rattle.mapping.specs.Tree.{Store}
 use Rattle.mapping.specs.TreeInMemory.{TreeInMemory, AreAllHome, tree_of}
 use Rattle.flush_log.specs.AfterFlush.{store_after}
-use Rattle.flush_log.specs.Disk.{View, Lawful, Kept, IsSettled, Leaves, Same}
+use Rattle.flush_log.specs.Disk.{View, Lawful, Kept, IsSynced, Leaves, Same}
 use Rattle.flush_log.specs.Segments.{disk_size}
 use Rattle.flush_log.specs.Slot.{Slot}
 use Rattle.flush_log.specs.declared.slot.LogEnds.{LogEnds}
@@ -95,6 +95,6 @@ leaves_still a b c step run same = record {
 }
 
 -- where a store was opened, its disk is settled if the disk that is left is
-pub settled_where : {D : Type 0} (view : D → View) (r : Result (State D) (Fault × D)) → IsSettled (view (disk_left r)) → IfOk r (λ opened. IsSettled (view opened.disk))
-settled_where view (Ok opened) settled = settled
-settled_where view (Err refused) settled = tt
+pub settled_where : {D : Type 0} (view : D → View) (r : Result (State D) (Fault × D)) → IsSynced (view (disk_left r)) → IfOk r (λ opened. IsSynced (view opened.disk))
+settled_where view (Ok opened) is_synced = is_synced
+settled_where view (Err refused) is_synced = tt

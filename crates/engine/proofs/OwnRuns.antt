@@ -22,7 +22,7 @@ use Rattle.page_runs.specs.Apart.{TakesAll, GivesNoOther, HasNoOther, AgreeOn}
 use Rattle.page_runs.proofs.NetLemmas.{Pairs, Changes, rising-net_run}
 use Rattle.page_runs.proofs.ApartLemmas.{within_by_key, off_by_key, net_run-apart, net_run-no_other_there}
 use Rattle.scan.proofs.Parts.{value_at-passing, part_of_level}
-use Rattle.split_plan.specs.WorkedLevel.{part_below, part_from}
+use Rattle.split_plan.specs.UpdatedLevel.{part_below, part_from}
 
 -- ---- the commands of a range
 

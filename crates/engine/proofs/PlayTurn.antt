@@ -7,14 +7,14 @@ use Rattle.keys.specs.declared.fault.Fault.{Fault}
 use Rattle.keys.specs.declared.fault.Fault.TheVariants.{BadSettings, KeyTooLong, ValueTooLong, BatchTooLong, BadCrew, NoMemory, Failed, Device, Full, NothingToClean, NotAStore, NoSlot, BadSegment, BadFrame, BadStructure, Spent, DiskTooSmall, AlreadyUpgraded}
 use Rattle.keys.specs.declared.settings.Settings.{Settings}
 use Rattle.mapping.specs.Tree.{Store}
-use Rattle.flush_log.specs.Disk.{View, Lawful, IsSettled, Kept, Same, LeavesOnly}
+use Rattle.flush_log.specs.Disk.{View, Lawful, IsSynced, Kept, Same, LeavesOnly}
 use Rattle.flush_log.proofs.SameLemmas.{settled_still, left_still, leaves_itself}
 use Rattle.flush_log.proofs.ViewLemmas.{only_then, weaker, now_leaves}
 use Rattle.recovery.specs.StoreOfDisk.{store_of_disk}
 use Rattle.engine.specs.Plays.{IsPlayed, IsPlayedOn, IsStepDone, IsStepFault, IsLeftInStep, step_of, answer_of, tried}
 use Rattle.engine.specs.State.{State, IsSound}
 use Rattle.engine.specs.Turns.{IsPlayedTo, IsTurn}
-use Rattle.engine.specs.Steps.{Step, Answer, Played, Stepped, StandsAfterSome, HasWords, HaveWords, here_and_on, played_on, with_later, after_step, batching, plays, plays_further}
+use Rattle.engine.specs.Steps.{Step, Answer, Played, Stepped, StandsAfterSome, NumbersFit, AllNumbersFit, here_and_on, played_on, with_later, after_step, batching, plays, plays_further}
 use Rattle.engine.specs.declared.step.Step as code_step
 use Rattle.engine.specs.declared.step.Answer as code_answer
 use Rattle.engine.proofs.PlayLemmas.{plays-append, words-append, stands-later, stands-last}
@@ -125,14 +125,14 @@ module _ (s : Settings) (st : Store) (file : List ℕ) where
     still_bytes : (a : Answer Global) (now : Store) (bytes : List ℕ) → after_step (batching s) s cur (at xs).bytes x ≡ Ok (a, (now, bytes)) → (at (xs ++ x ∷ [])).bytes ≡ bytes
     still_bytes a now bytes done = ap (λ (p : Played Global). p.bytes) (next_of xs x a now bytes is.unrefused (there a now bytes done))
 
-    one_word : (r : Stepped Global) (here : Type 0) → here → here_and_on r here (λ now bytes. HaveWords {A = Global} (batching s) s now bytes [])
+    one_word : (r : Stepped Global) (here : Type 0) → here → here_and_on r here (λ now bytes. AllNumbersFit {A = Global} (batching s) s now bytes [])
     one_word (Ok p) here w = (w, tt)
     one_word (Err fault) here w = tt
 
-    still_words : HaveWords (batching s) s st file xs → HasWords (batching s) s cur x → HaveWords (batching s) s st file (xs ++ x ∷ [])
+    still_words : AllNumbersFit (batching s) s st file xs → NumbersFit (batching s) s cur x → AllNumbersFit (batching s) s st file (xs ++ x ∷ [])
     still_words words here =
         words-append (batching s) s st file xs (x ∷ []) words
-        (λ none. one_word (after_step (batching s) s (at xs).store (at xs).bytes x) _ (subst (λ (y : Store). HasWords (batching s) s y x) is.store here))
+        (λ none. one_word (after_step (batching s) s (at xs).store (at xs).bytes x) _ (subst (λ (y : Store). NumbersFit (batching s) s y x) is.store here))
 
     -- ---- what a crash leaves
 
@@ -172,8 +172,8 @@ module _ {D : Type 0} (view : D → View) (failures : D → ℕ) (lawful : (disk
     exact = λ _. record { unrefused = refl; answers = refl; store = refl };
     words = λ _. tt;
     bytes = λ _. refl;
-    settled = λ settled. settled;
-    crash = λ _ settled. leaves_itself (view old.disk) _ (lawful old.disk settled.honest) settled
+    is_synced = λ is_synced. is_synced;
+    crash = λ _ is_synced. leaves_itself (view old.disk) _ (lawful old.disk is_synced.honest) is_synced
         (stands-last (batching s) s old.store (view old.disk).seen (view old.disk).seen [] refl);
   }
 
@@ -220,7 +220,7 @@ module _ {D : Type 0} (view : D → View) (failures : D → ℕ) (lawful : (disk
           exact = λ honest. still_exact store honest;
           words = turn.words;
           bytes = λ honest. (same (still_honest honest)).seen ∙ turn.bytes honest;
-          settled = λ was. settled_still (view cur.disk) (view next.disk) rest.1 (same (still_honest was.honest)) (turn.settled was);
+          is_synced = λ was. settled_still (view cur.disk) (view next.disk) rest.1 (same (still_honest was.honest)) (turn.is_synced was);
           crash = λ fine was. left_still (view old.disk) (view cur.disk) (view next.disk) (Stands xs) (turn.crash fine was) (same (still_honest was.honest));
         }
 
@@ -242,13 +242,13 @@ module _ {D : Type 0} (view : D → View) (failures : D → ℕ) (lawful : (disk
       Left z c = IsLeftInStep z cur.store (view cur.disk).seen x c
 
       abbrev CrashOfStep : Type 0
-      CrashOfStep = cur.has_failed ≡ false → IsSettled (view cur.disk) → LeavesOnly (view cur.disk) (view next.disk) (Left cur.settings)
+      CrashOfStep = cur.has_failed ≡ false → IsSynced (view cur.disk) → LeavesOnly (view cur.disk) (view next.disk) (Left cur.settings)
 
-      step_leaves : CrashOfStep → old.has_failed ≡ false → IsSettled (view old.disk) → LeavesOnly (view cur.disk) (view next.disk) (Left s)
+      step_leaves : CrashOfStep → old.has_failed ≡ false → IsSynced (view old.disk) → LeavesOnly (view cur.disk) (view next.disk) (Left s)
       step_leaves crash fine was =
-          subst (λ (z : Settings). LeavesOnly (view cur.disk) (view next.disk) (Left z)) turn.settings (crash (turn.has_failed ∙ fine) (turn.settled was))
+          subst (λ (z : Settings). LeavesOnly (view cur.disk) (view next.disk) (Left z)) turn.settings (crash (turn.has_failed ∙ fine) (turn.is_synced was))
 
-      pub crash_on : CrashOfStep → old.has_failed ≡ false → IsSettled (view old.disk) → LeavesOnly (view old.disk) (view next.disk) (Stands (xs ++ x ∷ []))
+      pub crash_on : CrashOfStep → old.has_failed ≡ false → IsSynced (view old.disk) → LeavesOnly (view old.disk) (view next.disk) (Stands (xs ++ x ∷ []))
       crash_on crash fine was =
           only_then (view old.disk) (view cur.disk) (view next.disk) (Stands (xs ++ x ∷ []))
           (weaker (view old.disk) (view cur.disk) (Stands xs) (Stands (xs ++ x ∷ [])) (λ c h. stands-later (batching s) s old.store first c xs (x ∷ []) h) (turn.crash fine was))
@@ -257,12 +257,12 @@ module _ {D : Type 0} (view : D → View) (failures : D → ℕ) (lawful : (disk
           (step_leaves crash fine was))
 
       -- its numbers too have 64 bits
-      pub words_on : IsTrue (view old.disk).is_honest → HasWords (batching cur.settings) cur.settings cur.store x → HaveWords (batching s) s old.store first (xs ++ x ∷ [])
+      pub words_on : IsTrue (view old.disk).is_honest → NumbersFit (batching cur.settings) cur.settings cur.store x → AllNumbersFit (batching s) s old.store first (xs ++ x ∷ [])
       words_on honest here =
           still_words s old.store first xs said cur.store (turn.exact honest) x (turn.words honest)
-          (subst (λ (z : Settings). HasWords {A = Global} (batching z) z cur.store x) turn.settings here)
+          (subst (λ (z : Settings). NumbersFit {A = Global} (batching z) z cur.store x) turn.settings here)
 
-      pub left_after_it : Kept (view cur.disk) (view next.disk) → CrashOfStep → old.has_failed ≡ false → IsSettled (view old.disk) → (c : List ℕ) → (view next.disk).may_leave c
+      pub left_after_it : Kept (view cur.disk) (view next.disk) → CrashOfStep → old.has_failed ≡ false → IsSynced (view old.disk) → (c : List ℕ) → (view next.disk).may_leave c
           → (store_of_disk c ≡ store_of_disk (plays (batching s) s old.store first xs).bytes) ⊎ (store_of_disk c ≡ store_of_disk (plays (batching s) s old.store first (xs ++ x ∷ [])).bytes)
       left_after_it kept crash fine was c left =
           left_by s old.store first xs said cur.store (turn.exact was.honest) x (view cur.disk).seen c (turn.bytes was.honest)
@@ -277,11 +277,11 @@ module _ {D : Type 0} (view : D → View) (failures : D → ℕ) (lawful : (disk
           → (next.has_failed ≡ cur.has_failed) × (failures next.disk ≡ failures cur.disk)
           → cur.has_failed ≡ false
           → (IsTrue (view cur.disk).is_honest → DoneOn cur.settings a (view cur.disk).seen (view next.disk).seen)
-          → (IsSettled (view cur.disk) → IsSettled (view next.disk))
+          → (IsSynced (view cur.disk) → IsSynced (view next.disk))
           → CrashOfStep
           → IsSound view next
           → IsTurn view failures old (xs ++ x ∷ []) (said ++ a ∷ []) next
-      goes_on a (left, done) rest counted fine bytes settled crash sound =
+      goes_on a (left, done) rest counted fine bytes is_synced crash sound =
           let (last, on, seen) = turn.trace in
           let here : IsStepDone (view cur.disk).is_honest s cur.store (view cur.disk).seen x a next.store left =
           subst (λ (z : Settings). IsStepDone (view cur.disk).is_honest z cur.store (view cur.disk).seen x a next.store left) turn.settings done in
@@ -304,7 +304,7 @@ module _ {D : Type 0} (view : D → View) (failures : D → ℕ) (lawful : (disk
             exact = λ honest. still_played s old.store first xs said cur.store (turn.exact honest) x a next.store (view next.disk).seen (one honest);
             words = λ honest. still_words s old.store first xs said cur.store (turn.exact honest) x (turn.words honest) here.words;
             bytes = λ honest. sym (still_bytes s old.store first xs said cur.store (turn.exact honest) x (answer_of a) next.store (view next.disk).seen (one honest));
-            settled = λ was. settled (turn.settled was);
+            is_synced = λ was. is_synced (turn.is_synced was);
             crash = λ fine was. crash_on crash fine was;
           }
         where

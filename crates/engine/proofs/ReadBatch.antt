@@ -14,7 +14,7 @@ use Rattle.mapping.specs.Table.{page_of}
 use Rattle.mapping.specs.TreeInMemory.{TreeInMemory}
 use Rattle.routing.specs.Routes.{Route}
 use Rattle.page_runs.specs.LeafWork.{LeafMade, leaf_made}
-use Rattle.page_runs.specs.Reads.{IsRouteToRead, ReadLeaf, is_look, is_only_read, route_answers}
+use Rattle.page_runs.specs.Reads.{IsRouteToRead, ReadLeaf, is_read_only, is_only_read, route_answers}
 use Rattle.page_runs.specs.Replies.{commands_at, ArePlacesOf}
 use Rattle.replies.specs.ByPlace.{AreAnswers, blank_of, reply_at, with_pieces}
 use Rattle.replies.proofs.Placing.{replies-with_pieces}
@@ -27,28 +27,28 @@ both_look true true h = (refl, refl)
 both_look true false h = absurd (cc)
 both_look false b h = absurd (cc)
 
-looks_at : (cs : List (Command Global)) (i : ℕ) → list_all is_look cs ≡ true → list_all is_look (option_to_list (slice_get cs i)) ≡ true
+looks_at : (cs : List (Command Global)) (i : ℕ) → list_all is_read_only cs ≡ true → list_all is_read_only (option_to_list (slice_get cs i)) ≡ true
 looks_at [] i h = refl
-looks_at (c ∷ cs) zero h = ap (λ (b : Bool). b && true) (both_look (is_look c) (list_all is_look cs) h).0
-looks_at (c ∷ cs) (suc i) h = looks_at cs i (both_look (is_look c) (list_all is_look cs) h).1
+looks_at (c ∷ cs) zero h = ap (λ (b : Bool). b && true) (both_look (is_read_only c) (list_all is_read_only cs) h).0
+looks_at (c ∷ cs) (suc i) h = looks_at cs i (both_look (is_read_only c) (list_all is_read_only cs) h).1
 
-all_look : (cs : List (Command Global)) (ps : List ℕ) → list_all is_look cs ≡ true → list_all is_look (commands_at cs ps) ≡ true
+all_look : (cs : List (Command Global)) (ps : List ℕ) → list_all is_read_only cs ≡ true → list_all is_read_only (commands_at cs ps) ≡ true
 all_look cs [] h = refl
 all_look cs (p ∷ ps) h =
-    list_all-append is_look (option_to_list (slice_get cs p)) (commands_at cs ps)
-    ∙ ap (λ (b : Bool). b && list_all is_look (commands_at cs ps)) (looks_at cs p h)
+    list_all-append is_read_only (option_to_list (slice_get cs p)) (commands_at cs ps)
+    ∙ ap (λ (b : Bool). b && list_all is_read_only (commands_at cs ps)) (looks_at cs p h)
     ∙ all_look cs ps h
 
 -- no leaf may be changed
-pub none_written : (cs : List (Command Global)) → list_all is_look cs ≡ true → (rs : List Route) → written_routes cs rs ≡ []
+pub none_written : (cs : List (Command Global)) → list_all is_read_only cs ≡ true → (rs : List Route) → written_routes cs rs ≡ []
 none_written cs h [] = refl
 none_written cs h (r ∷ rs) = let e : is_only_read cs r ≡ true = all_look cs r.places h in rw e (none_written cs h rs)
 
 -- so none is taken
-pub none_taken : (cs : List (Command Global)) → list_all is_look cs ≡ true → (m : TreeInMemory) (rs : List Route) → m ≡ tree_taken m (route_pids (written_routes cs rs))
+pub none_taken : (cs : List (Command Global)) → list_all is_read_only cs ≡ true → (m : TreeInMemory) (rs : List Route) → m ≡ tree_taken m (route_pids (written_routes cs rs))
 none_taken cs h m rs = ap (λ (ws : List Route). tree_taken m (route_pids ws)) (sym (none_written cs h rs))
 
-pub none_made : (cs : List (Command Global)) → list_all is_look cs ≡ true → (s : Settings) (m : TreeInMemory) (rs : List Route) → ◌≡◌ {A = List LeafMade} [] (leaves_made s cs m.table (written_routes cs rs))
+pub none_made : (cs : List (Command Global)) → list_all is_read_only cs ≡ true → (s : Settings) (m : TreeInMemory) (rs : List Route) → ◌≡◌ {A = List LeafMade} [] (leaves_made s cs m.table (written_routes cs rs))
 none_made cs h s m rs = ap (λ (ws : List Route). leaves_made s cs m.table ws) (sym (none_written cs h rs))
 
 -- leaves at home, and places of the batch, may be read

@@ -20,7 +20,7 @@ use Rattle.mapping.proofs.TileLemmas.{rising-joined}
 use Rattle.routing.specs.Routes.{Route, routes}
 use Rattle.page_runs.specs.LeafWork.{LeafMade}
 use Rattle.page_runs.specs.NetRun.{net_run}
-use Rattle.split_plan.specs.WorkedLevel.{worked_leaves}
+use Rattle.split_plan.specs.UpdatedLevel.{updated_leaves}
 use Rattle.climb_plan.specs.Changing.{page_seen, AreSeen, AreHome}
 use Rattle.climb_plan.specs.Installing.{all_taken, all_put, AreAway, page_or_none}
 use Rattle.climb_plan.specs.Ready.{IsReady}
@@ -61,7 +61,7 @@ leaves_here m cs w = under_routes m.table (routes_here m cs w)
 
 -- what is seen of them, and that the others are at home
 seen_level : (s : Settings) (cs : List (Command Global)) (t : Mapping PageOfKind) (w : Route → Bool) → ComeToNone cs w → (ps : List (Placed (List ℕ))) → next_low ps None ≡ Some [] → Tiled ps None → AreHome Leaf t ps → Distinct (pids ps)
-    → AreSeen Leaf (all_taken t (route_pids (filter w (routes ps cs)))) (map (λ d. page_seen Leaf d.worked) (leaves_made s cs t (filter w (routes ps cs)))) (worked_leaves s (net_run (joined ps) cs) ps)
+    → AreSeen Leaf (all_taken t (route_pids (filter w (routes ps cs)))) (map (λ d. page_seen Leaf d.updated) (leaves_made s cs t (filter w (routes ps cs)))) (updated_leaves s (net_run (joined ps) cs) ps)
 seen_level s cs t w quiet [] e tiled h d = absurd (cc)
 seen_level s cs t w quiet (p ∷ ps) e tiled h d =
     let least : p.page.low ≡ [] = cc in
@@ -154,7 +154,7 @@ module _ (s : Settings) (m : TreeInMemory) (cs : List (Command Global)) (w : Rou
       ∙ sym (home_keys m.table.places sound.home)
 
   -- the tree is ready to climb, where the commands of those that don't pass come to no run
-  pub ready_here : ComeToNone cs w → IsReady s (tree_of m) cs (taken_here m cs w) (map (λ d. page_seen Leaf d.worked) (made_here s m cs w))
+  pub ready_here : ComeToNone cs w → IsReady s (tree_of m) cs (taken_here m cs w) (map (λ d. page_seen Leaf d.updated) (made_here s m cs w))
   ready_here quiet = record {
     proper = sound.sound.proper;
     logs = sound.sound.logs;

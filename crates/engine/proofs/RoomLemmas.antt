@@ -8,7 +8,7 @@ use Rattle.keys.specs.declared.settings.Settings.{Settings}
 use Rattle.mapping.specs.Levels.{contents}
 use Rattle.mapping.specs.Tree.{Store, Tree}
 use Rattle.frame_codec.specs.Frame.{Frame, bytes_of}
-use Rattle.flush_log.specs.FlushText.{flush_text}
+use Rattle.flush_log.specs.FlushText.{flush_frames}
 use Rattle.flush_log.specs.Images.{frames_in, AreOfText}
 use Rattle.flush_log.proofs.FitLemmas.{are_sized}
 use Rattle.engine.specs.Room.{flush_bytes, is_bloated, is_overfull, is_two_thirds_full, is_worth, most_live, room_in, room_in_use, segments_in_use}
@@ -64,10 +64,10 @@ small-room s n good few =
     omega (arith, product)
 
 -- whether what lives and what a flush writes are too much
-pub overfull-by : (s : Settings) (st : Store) (images : List (List (List ℕ))) (live most total : ℕ) → AreOfText images (flush_text st.version st.tree) → most ≡ most_live s → most < 2 ^ 64 - 1
+pub overfull-by : (s : Settings) (st : Store) (images : List (List (List ℕ))) (live most total : ℕ) → AreOfText images (flush_frames st.version st.tree) → most ≡ most_live s → most < 2 ^ 64 - 1
     → total ≡ min (live + lengths (frames_in images)) (2 ^ 64 - 1) → nat_lt most total ≡ is_overfull s st live
 overfull-by s st images live most total of is small sum =
-    let bytes : lengths (frames_in images) ≡ flush_bytes st = ap lengths of ∙ lengths-map (flush_text st.version st.tree) in
+    let bytes : lengths (frames_in images) ≡ flush_bytes st = ap lengths of ∙ lengths-map (flush_frames st.version st.tree) in
     same-test most total (most_live s) (live + flush_bytes st) (λ less. omega (arith, small, bytes, is, sum, less)) (λ more. omega (arith, small, bytes, is, sum, more))
 
 -- whether the dead bytes are worth a row of cleans

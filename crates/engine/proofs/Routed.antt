@@ -22,7 +22,7 @@ use Rattle.mapping.specs.Tree.{Tree, Store}
 use Rattle.mapping.specs.TreeInMemory.{TreeInMemory, AreAllHome, tree_of}
 use Rattle.mapping.proofs.TileLemmas.{rising-joined, rising-names}
 use Rattle.keys.specs.declared.piece.Piece.{Piece}
-use Rattle.page_runs.specs.LeafWork.{LeafHeld, LeafMade, LeafWorked}
+use Rattle.page_runs.specs.LeafWork.{LeafHeld, LeafMade, LeafUpdate}
 use Rattle.page_runs.specs.Reads.{IsLeafAt, is_only_read}
 use Rattle.page_runs.specs.Replies.{commands_at}
 use Rattle.page_runs.proofs.EndedBatch.{near_ends, all_end_before, net_run-ended}
@@ -45,19 +45,19 @@ use Rattle.engine.proofs.Readied.{ready_here, taken_away, put_back_here}
 use Rattle.engine.proofs.RunRoutes.{AreSameWork, runs_same, same_pids, all_places, all_ended, all_but_blank, changed_same, same_seen}
 use Rattle.engine.proofs.SeenLeaves.{ComeToNone}
 
-abbrev pub made_all : List LeafWorked → List LeafMade
+abbrev pub made_all : List LeafUpdate → List LeafMade
 made_all ds = map (λ d. d.made) ds
 
 -- what is seen of leaves is of what was made of them
-seen_by_made : (ds : List LeafWorked) → seen_leaves ds ≡ map (λ x. page_seen Leaf x.worked) (made_all ds)
+seen_by_made : (ds : List LeafUpdate) → seen_leaves ds ≡ map (λ x. page_seen Leaf x.updated) (made_all ds)
 seen_by_made [] = refl
-seen_by_made (d ∷ ds) = ap (λ (xs : List SeenPage). page_seen Leaf d.made.worked ∷ xs) (seen_by_made ds)
+seen_by_made (d ∷ ds) = ap (λ (xs : List SeenPage). page_seen Leaf d.made.updated ∷ xs) (seen_by_made ds)
 
-pids_held : (ds : List LeafWorked) → map (λ d. d.held.route.pid) ds ≡ map (λ h. h.route.pid) (held_all ds)
+pids_held : (ds : List LeafUpdate) → map (λ d. d.held.route.pid) ds ≡ map (λ h. h.route.pid) (held_all ds)
 pids_held [] = refl
 pids_held (d ∷ ds) = ap (λ (ns : List ℕ). d.held.route.pid ∷ ns) (pids_held ds)
 
-pages_held : (ds : List LeafWorked) → map {B = ℕ × PageOfKind} (λ d. (d.held.route.pid, d.held.page)) ds ≡ map {B = ℕ × PageOfKind} (λ h. (h.route.pid, h.page)) (held_all ds)
+pages_held : (ds : List LeafUpdate) → map {B = ℕ × PageOfKind} (λ d. (d.held.route.pid, d.held.page)) ds ≡ map {B = ℕ × PageOfKind} (λ h. (h.route.pid, h.page)) (held_all ds)
 pages_held [] = refl
 pages_held (d ∷ ds) = ap (λ (es : List (ℕ × PageOfKind)). (d.held.route.pid, d.held.page) ∷ es) (pages_held ds)
 
@@ -170,11 +170,11 @@ module _ (s : Settings) (m : TreeInMemory) (cs : List (Command Global)) (sound :
         ∙ replies-with_ends (keys_of (names (levels_of (tree_of m)).level)) (contents (tree_of m)) cs routed.0 (rising-joined (levels_of (tree_of m)).level None sound.sound.proper.levels.tiled) routed.1
 
   -- the leaves that were changed, and then asked for their answers
-  module _ (ds leaves : List LeafWorked) (asked : leaves ≡ map without_answers ds) (now : TreeInMemory) (taken : now ≡ without_leaves m (written_routes cs rs)) where
+  module _ (ds leaves : List LeafUpdate) (asked : leaves ≡ map without_answers ds) (now : TreeInMemory) (taken : now ≡ without_leaves m (written_routes cs rs)) where
     module _ (made : made_all ds ≡ leaves_made s cs m.table (written_routes cs rs)) where
-      seen_here : seen_leaves leaves ≡ map (λ x. page_seen Leaf x.worked) (leaves_made s ended m.table (filter changed here))
+      seen_here : seen_leaves leaves ≡ map (λ x. page_seen Leaf x.updated) (leaves_made s ended m.table (filter changed here))
       seen_here =
-          ap (λ (xs : List LeafWorked). seen_leaves xs) asked ∙ seen_without ds ∙ seen_by_made ds ∙ ap (λ (ms : List LeafMade). map (λ x. page_seen Leaf x.worked) ms) made
+          ap (λ (xs : List LeafUpdate). seen_leaves xs) asked ∙ seen_without ds ∙ seen_by_made ds ∙ ap (λ (ms : List LeafMade). map (λ x. page_seen Leaf x.updated) ms) made
           ∙ same_seen s cs routed.0 m.table (written_routes cs rs) (filter changed here) same_changed
 
       is_ready : IsReady s (tree_of m) ended now (seen_leaves leaves)
@@ -189,12 +189,12 @@ module _ (s : Settings) (m : TreeInMemory) (cs : List (Command Global)) (sound :
       pub for_this : (P : Tree → Type 0) → ((t : Tree) (bs : List (Command Global)) → IsReady s t bs now (seen_leaves leaves) → P (planned_tree s t bs)) → P (planned_tree s (tree_of m) cs)
       for_this P f = subst P (planned-ended s (tree_of m) cs routed.0) (f (tree_of m) ended is_ready)
 
-    module _ (held : held_all ds ≡ map (leaf_held m.table) (written_routes cs rs)) (again : List LeafWorked) (back : again ≡ leaves) (refused : TreeInMemory) (kept : refused ≡ now) where
+    module _ (held : held_all ds ≡ map (leaf_held m.table) (written_routes cs rs)) (again : List LeafUpdate) (back : again ≡ leaves) (refused : TreeInMemory) (kept : refused ≡ now) where
       there : refused ≡ without_leaves m (filter changed here)
       there = kept ∙ taken ∙ ap (λ (ns : List ℕ). without_pids m ns) pids_changed
 
       held_again : held_all again ≡ map (leaf_held m.table) (written_routes cs rs)
-      held_again = ap (λ (xs : List LeafWorked). held_all xs) (back ∙ asked) ∙ held_without ds ∙ held
+      held_again = ap (λ (xs : List LeafUpdate). held_all xs) (back ∙ asked) ∙ held_without ds ∙ held
 
       pub again_away : AreAway refused.table (map (λ d. d.held.route.pid) again)
       again_away =

@@ -7,7 +7,7 @@ use Rattle.keys.specs.declared.fault.Fault.TheVariants.{Device, NoMemory}
 use Rattle.keys.specs.declared.settings.Settings.{Settings}
 use Rattle.mapping.specs.Tree.{Store}
 use Rattle.flush_log.specs.Disk.{View, Lawful}
-use Rattle.flush_log.specs.FlushText.{flush_text}
+use Rattle.flush_log.specs.FlushText.{flush_frames}
 use Rattle.engine.specs.Cleaning.{CleanRow, AreCleansBy, AreRows, IsCalm, IsCalmOn, IsCleanRefused, IsCleanRefusedOn, IsEarly, IsOfBytes, IsOfMachine, IsRow, IsWhole, NoneFollow, most_cleanable, reads_in}
 use Rattle.engine.specs.Cleans.{cleans, AreStopped, IsOnlyRead, IsRefusedClean, IsCleanedOn, IsStoppedOn}
 use Rattle.engine.specs.Plays.{IsPlayed, IsStepFault, answer_of}
@@ -221,7 +221,7 @@ module _ {D : Type 0} (view : D → View) (failures : D → ℕ) (lawful : (disk
 
   -- ---- no early row
 
-  pub calm_by : (x : State D) → ((is_tight x.settings x.store ≡ true) × (flush_text x.store.version x.store.tree ≢ []) → ⊥) → IsCalmOn view x
+  pub calm_by : (x : State D) → ((is_tight x.settings x.store ≡ true) × (flush_frames x.store.version x.store.tree ≢ []) → ⊥) → IsCalmOn view x
   calm_by x none = inl ((view x.disk).seen, λ h. refl, λ early. none (early.tight, early.due))
 
   same_live : (o : Option ℕ) (a b : ℕ) → o ≡ Some a → o ≡ Some b → a ≡ b

@@ -24,7 +24,7 @@ use Rattle.page_runs.specs.LeafWork.{LeafMade, leaf_made, placed_leaf}
 use Rattle.page_runs.specs.NetRun.{net_run}
 use Rattle.page_runs.specs.Reads.{is_only_read}
 use Rattle.page_runs.specs.Replies.{ArePlacesOf, commands_at, pieces_of}
-use Rattle.page_runs.specs.Worked.{Worked, worked}
+use Rattle.page_runs.specs.Updated.{Updated, updated}
 use Rattle.page_runs.proofs.EndedBatch.{AreNear, EndsBefore, AllEndBefore, replies-ended, net_run-ended}
 use Rattle.page_runs.proofs.IdleBatch.{AreButBlank, AreQuiet, net_run-kept, pieces-kept, page_quiet, looks-kept}
 use Rattle.climb_plan.specs.Changing.{SeenPage, page_seen}
@@ -56,7 +56,7 @@ module _ (s : Settings) (cs : List (Command Global)) (ends : List (Option (List 
     pub pid : r.pid ≡ w.pid
     pub reads : is_only_read cs r ≡ is_only_read cs w
     pub nearer : made_by cs r ≡ made_by ended r
-    pub worked : (made_by ended r).worked ≡ (made_by ended w).worked
+    pub updated : (made_by ended r).updated ≡ (made_by ended w).updated
     pub pieces : AreButBlank ended (made_by ended r).pieces (made_by ended w).pieces
     pub places : ArePlacesOf ended r.places
 
@@ -86,7 +86,7 @@ module _ (s : Settings) (cs : List (Command Global)) (ends : List (Option (List 
           ap (λ (x : Pairs). replies_to x (commands_at cs ps)) part
           ∙ sym (replies-ended cs ends keys near at.low at.end f ps m rises goes)
           ∙ sym (ap (λ (x : Pairs). replies_to x (commands_at ended ps)) part) in
-          let make : Changes → List (Reply Global) → LeafMade = λ run rs. record { worked = worked s (placed_leaf held) run; pieces = pieces_of ps rs } in
+          let make : Changes → List (Reply Global) → LeafMade = λ run rs. record { updated = updated s (placed_leaf held) run; pieces = pieces_of ps rs } in
           ap (λ (run : Changes). make run (replies_to own (commands_at cs ps))) (sym (net_run-ended cs ends ps own))
           ∙ ap (λ (rs : List (Reply Global)). make (net_run own (commands_at ended ps)) rs) answers
 
@@ -105,7 +105,7 @@ module _ (s : Settings) (cs : List (Command Global)) (ends : List (Option (List 
           pid = refl;
           reads = looks-kept at.low at.end cs ends run.keeps run.idle;
           nearer = same_ended some (all-filter (λ place. goes_at ended at.low at.end place ≡ true) run.keeps whole (own_places at.low at.end ended));
-          worked = ap (λ (x : Changes). worked s (placed_leaf (leaf_held t (run_with some))) x) (net_run-kept ended run.keeps whole own quiet);
+          updated = ap (λ (x : Changes). updated s (placed_leaf (leaf_held t (run_with some))) x) (net_run-kept ended run.keeps whole own quiet);
           pieces = pieces-kept ended run.keeps whole own quiet;
           places = subst (λ (ps : List ℕ). ArePlacesOf ended ps) run.places (below_run ended at r run);
         }
@@ -170,7 +170,7 @@ module _ (s : Settings) (cs : List (Command Global)) (ends : List (Option (List 
   changed_same (r ∷ rs) (w ∷ ws) a = pass_by (is_written cs r) (is_written cs w) r w (written_routes cs rs) (filter (is_written cs) ws) (ap not a.0.reads) a.0 (changed_same rs ws a.1)
 
   abbrev seen_by : List (Command Global) → List Route → List SeenPage
-  seen_by ds rs = map (λ x. page_seen Leaf x.worked) (leaves_made s ds t rs)
+  seen_by ds rs = map (λ x. page_seen Leaf x.updated) (leaves_made s ds t rs)
 
   -- and are seen as the same
   pub same_seen : (rs ws : List Route) → AreSameWork rs ws → seen_by cs rs ≡ seen_by ended ws
@@ -178,5 +178,5 @@ module _ (s : Settings) (cs : List (Command Global)) (ends : List (Option (List 
   same_seen [] (w ∷ ws) a = absurd a
   same_seen (r ∷ rs) [] a = absurd a
   same_seen (r ∷ rs) (w ∷ ws) a =
-      let seen : Worked (List ℕ) → SeenPage = λ x. page_seen Leaf x in
-      ap (λ (x : SeenPage). x ∷ seen_by cs rs) (ap (λ (x : LeafMade). seen x.worked) a.0.nearer ∙ ap seen a.0.worked) ∙ ap (λ (xs : List SeenPage). seen (made_by ended w).worked ∷ xs) (same_seen rs ws a.1)
+      let seen : Updated (List ℕ) → SeenPage = λ x. page_seen Leaf x in
+      ap (λ (x : SeenPage). x ∷ seen_by cs rs) (ap (λ (x : LeafMade). seen x.updated) a.0.nearer ∙ ap seen a.0.updated) ∙ ap (λ (xs : List SeenPage). seen (made_by ended w).updated ∷ xs) (same_seen rs ws a.1)

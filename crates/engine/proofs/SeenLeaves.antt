@@ -19,11 +19,11 @@ use Rattle.routing.specs.Routes.{places_within, Route, has_places, routes}
 use Rattle.page_runs.specs.LeafWork.{leaf_made}
 use Rattle.page_runs.specs.NetRun.{net_run}
 use Rattle.page_runs.specs.Replies.{commands_at}
-use Rattle.page_runs.specs.Worked.{Worked, worked}
+use Rattle.page_runs.specs.Updated.{Updated, updated}
 use Rattle.page_runs.proofs.NetLemmas.{Pairs, Changes}
-use Rattle.split_plan.specs.WorkedLevel.{part_below, part_from, worked_leaves}
+use Rattle.split_plan.specs.UpdatedLevel.{part_below, part_from, updated_leaves}
 use Rattle.climb_plan.specs.Changing.{SeenPage, page_seen, AreSeen, AreHome}
-use Rattle.climb_plan.specs.Changing.AreSeen.{none as none_seen, worked as worked_seen, at_home as home_seen}
+use Rattle.climb_plan.specs.Changing.AreSeen.{none as none_seen, updated as updated_seen, at_home as home_seen}
 use Rattle.climb_plan.specs.Installing.{all_taken, page_or_none}
 use Rattle.climb_plan.proofs.BridgeTables.{taken_others, taken_away}
 use Rattle.climb_plan.proofs.Climbing.{still_home}
@@ -75,36 +75,36 @@ ComeToNone cs w = (r : Route) → w r ≡ false → (n : Pairs) → net_run n (c
 module _ (s : Settings) (cs : List (Command Global)) (t : Mapping PageOfKind) where
   -- what is seen of the leaves that were taken out of this table
   abbrev pub seen_of : List Route → List SeenPage
-  seen_of rs = map (λ d. page_seen Leaf d.worked) (leaves_made s cs t rs)
+  seen_of rs = map (λ d. page_seen Leaf d.updated) (leaves_made s cs t rs)
 
   made_is : (p : Placed (List ℕ)) (places : List ℕ) (run : Changes) → place_of t p.pid ≡ Some (Some (Leaf p.page)) → net_run (entries p) (commands_at cs places) ≡ run
-      → (leaf_made s cs (leaf_held t (record { pid = p.pid; places = places }))).worked ≡ worked s p run
+      → (leaf_made s cs (leaf_held t (record { pid = p.pid; places = places }))).updated ≡ updated s p run
   made_is p places run h e =
-      ap (λ (o : Option (Option PageOfKind)). (leaf_made s cs (record { page = page_or_none (at_home o); route = record { pid = p.pid; places = places } })).worked) h ∙ ap (λ (r : Changes). worked s p r) e
+      ap (λ (o : Option (Option PageOfKind)). (leaf_made s cs (record { page = page_or_none (at_home o); route = record { pid = p.pid; places = places } })).updated) h ∙ ap (λ (r : Changes). updated s p r) e
 
   -- where only those are taken that pass, and the commands of all others come to no run
   module _ (w : Route → Bool) (quiet : ComeToNone cs w) where
     -- of a leaf that gets no run, and stays
-    same_there : (p : Placed (List ℕ)) (run : Changes) (rs : List Route) (ws : List (Worked (List ℕ))) (u : Mapping PageOfKind)
+    same_there : (p : Placed (List ℕ)) (run : Changes) (rs : List Route) (ws : List (Updated (List ℕ))) (u : Mapping PageOfKind)
         → place_of u p.pid ≡ Some (Some (Leaf p.page)) → run ≡ [] → is_among p.pid (route_pids rs) ≡ false
-        → AreSeen Leaf (all_taken u (route_pids rs)) (seen_of rs) ws → AreSeen Leaf (all_taken u (route_pids rs)) (seen_of rs) (worked s p run ∷ ws)
+        → AreSeen Leaf (all_taken u (route_pids rs)) (seen_of rs) ws → AreSeen Leaf (all_taken u (route_pids rs)) (seen_of rs) (updated s p run ∷ ws)
     same_there p run rs ws u k e n a =
-        subst (λ (r : Changes). AreSeen Leaf (all_taken u (route_pids rs)) (seen_of rs) (worked s p r ∷ ws)) (sym e) (home_seen p (taken_others u (route_pids rs) p.pid n ∙ k) a)
+        subst (λ (r : Changes). AreSeen Leaf (all_taken u (route_pids rs)) (seen_of rs) (updated s p r ∷ ws)) (sym e) (home_seen p (taken_others u (route_pids rs) p.pid n ∙ k) a)
 
-    seen_where : (p : Placed (List ℕ)) (places : List ℕ) (run : Changes) (rs : List Route) (ws : List (Worked (List ℕ))) (u : Mapping PageOfKind)
+    seen_where : (p : Placed (List ℕ)) (places : List ℕ) (run : Changes) (rs : List Route) (ws : List (Updated (List ℕ))) (u : Mapping PageOfKind)
         → place_of t p.pid ≡ Some (Some (Leaf p.page)) → place_of u p.pid ≡ Some (Some (Leaf p.page)) → run ≡ net_run (entries p) (commands_at cs places) → is_among p.pid (route_pids (filter w rs)) ≡ false
         → AreSeen Leaf (all_taken u (route_pids (filter w rs))) (seen_of (filter w rs)) ws → AreSeen Leaf (all_taken (with_place u p.pid None) (route_pids (filter w rs))) (seen_of (filter w rs)) ws
-        → (let r : Route = record { pid = p.pid; places = places } in (b : Bool) → w r ≡ b → AreSeen Leaf (all_taken u (route_pids (filter w (r ∷ rs)))) (seen_of (filter w (r ∷ rs))) (worked s p run ∷ ws))
+        → (let r : Route = record { pid = p.pid; places = places } in (b : Bool) → w r ≡ b → AreSeen Leaf (all_taken u (route_pids (filter w (r ∷ rs)))) (seen_of (filter w (r ∷ rs))) (updated s p run ∷ ws))
     seen_where p places run rs ws u h k e n a b false is =
         rw is (same_there p run (filter w rs) ws u k (e ∙ quiet (record { pid = p.pid; places = places }) is (entries p)) n a)
     seen_where p places run rs ws u h k e n a b true is =
-        rw is (subst (λ (x : Worked (List ℕ)). AreSeen Leaf (all_taken (with_place u p.pid None) (route_pids (filter w rs))) (page_seen Leaf x ∷ seen_of (filter w rs)) (worked s p run ∷ ws)) (sym (made_is p places run h (sym e)))
-        (worked_seen (worked s p run) (first_taken u p.pid (route_pids (filter w rs))) b))
+        rw is (subst (λ (x : Updated (List ℕ)). AreSeen Leaf (all_taken (with_place u p.pid None) (route_pids (filter w rs))) (page_seen Leaf x ∷ seen_of (filter w rs)) (updated s p run ∷ ws)) (sym (made_is p places run h (sym e)))
+        (updated_seen (updated s p run) (first_taken u p.pid (route_pids (filter w rs))) b))
 
-    seen_by : (p : Placed (List ℕ)) (places : List ℕ) (run : Changes) (rs : List Route) (ws : List (Worked (List ℕ))) (u : Mapping PageOfKind)
+    seen_by : (p : Placed (List ℕ)) (places : List ℕ) (run : Changes) (rs : List Route) (ws : List (Updated (List ℕ))) (u : Mapping PageOfKind)
         → place_of t p.pid ≡ Some (Some (Leaf p.page)) → place_of u p.pid ≡ Some (Some (Leaf p.page)) → run ≡ net_run (entries p) (commands_at cs places) → is_among p.pid (route_pids (filter w rs)) ≡ false
         → AreSeen Leaf (all_taken u (route_pids (filter w rs))) (seen_of (filter w rs)) ws → AreSeen Leaf (all_taken (with_place u p.pid None) (route_pids (filter w rs))) (seen_of (filter w rs)) ws
-        → (let r : Route = record { pid = p.pid; places = places } in AreSeen Leaf (all_taken u (route_pids (filter w (cond (has_places r) (r ∷ rs) rs)))) (seen_of (filter w (cond (has_places r) (r ∷ rs) rs))) (worked s p run ∷ ws))
+        → (let r : Route = record { pid = p.pid; places = places } in AreSeen Leaf (all_taken u (route_pids (filter w (cond (has_places r) (r ∷ rs) rs)))) (seen_of (filter w (cond (has_places r) (r ∷ rs) rs))) (updated s p run ∷ ws))
     seen_by p [] run rs ws u h k e n a b = same_there p run (filter w rs) ws u k e n a
     seen_by p (i ∷ is) run rs ws u h k e n a b = seen_where p (i ∷ is) run rs ws u h k e n a b (w (record { pid = p.pid; places = i ∷ is })) refl
 
@@ -113,13 +113,13 @@ module _ (s : Settings) (cs : List (Command Global)) (t : Mapping PageOfKind) wh
     module _ (m : Pairs) (rising : IsRising m) where
       -- from a page on, where the leaves are at home in the table before, and in the one that others were taken out of
       pub seen_from : (p : Placed (List ℕ)) (ps : List (Placed (List ℕ))) (left : Changes) (u : Mapping PageOfKind) → Tiled (p ∷ ps) None → IsLeft m (net_run m cs) p ps left → AreHome Leaf t (p ∷ ps) → AreHome Leaf u (p ∷ ps) → Distinct (pids (p ∷ ps))
-          → AreSeen Leaf (all_taken u (route_pids (filter w (routes (p ∷ ps) cs)))) (seen_of (filter w (routes (p ∷ ps) cs))) (worked_leaves s left (p ∷ ps))
+          → AreSeen Leaf (all_taken u (route_pids (filter w (routes (p ∷ ps) cs)))) (seen_of (filter w (routes (p ∷ ps) cs))) (updated_leaves s left (p ∷ ps))
       seen_from p [] left u tiled l h k d =
           seen_by p (places_within p.page.low None cs) left [] [] u h.0 k.0 (last_part m cs rising p left tiled l ∙ ap (λ (ds : List (Command Global)). net_run (entries p) ds) (sym (commands_within p.page.low None cs))) refl none_seen none_seen
       seen_from p (q ∷ qs) left u tiled l h k d =
           let rest : IsLeft m (net_run m cs) q qs (part_from q.page.low left) = later_part m (net_run m cs) p q qs left tiled l in
           let apart = all_passing w (λ n. n ≢ p.pid) (routes (q ∷ qs) cs) (all_routed (λ n. n ≢ p.pid) (q ∷ qs) cs d.0) in
-          seen_by p (places_within p.page.low (Some q.page.low) cs) (part_below q.page.low left) (routes (q ∷ qs) cs) (worked_leaves s (part_from q.page.low left) (q ∷ qs)) u h.0 k.0
+          seen_by p (places_within p.page.low (Some q.page.low) cs) (part_below q.page.low left) (routes (q ∷ qs) cs) (updated_leaves s (part_from q.page.low left) (q ∷ qs)) u h.0 k.0
           (first_part m cs rising p q qs left tiled l ∙ ap (λ (ds : List (Command Global)). net_run (entries p) ds) (sym (commands_within p.page.low (Some q.page.low) cs)))
           (not_among p.pid (route_pids (filter w (routes (q ∷ qs) cs))) apart)
           (seen_from q qs (part_from q.page.low left) u tiled.1 rest h.1 k.1 d.1)

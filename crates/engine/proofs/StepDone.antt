@@ -4,7 +4,7 @@ use Rattle.std.specs.Option.{option_or}
 use Rattle.std.proofs.Common.{refl, sym, ap, ◌∙◌, subst, inl, inr, ⊎_elim, arith}
 use Rattle.std.proofs.lemmas.Bool.Decides.{nat_tests}
 use Rattle.std.specs.declared.alloc.Global.{Global}
-use Rattle.keys.specs.Footprint.{Span, One, Range, Deed, Gives, span_of, deed_of}
+use Rattle.keys.specs.Footprint.{Span, One, Range, Access, Gives, span_of, access_of}
 use Rattle.keys.specs.Step.{replies_to}
 use Rattle.keys.specs.declared.command.Command.{Command}
 use Rattle.keys.specs.declared.command.Reply.{Reply}
@@ -15,8 +15,8 @@ use Rattle.mapping.specs.Levels.{contents}
 use Rattle.mapping.specs.Tree.{Store, most_levels}
 use Rattle.climb_plan.specs.Plan.{plan, planned_tree}
 use Rattle.flush_log.specs.Disk.{View, Same}
-use Rattle.flush_log.specs.declared.text.Text.{Text}
-use Rattle.flush_log.specs.declared.text.Text.TheVariants as texts
+use Rattle.flush_log.specs.declared.text.CommitKind.{CommitKind}
+use Rattle.flush_log.specs.declared.text.CommitKind.TheVariants as texts
 use Rattle.recovery.specs.StoreOfDisk.{store_of_disk, and_then}
 use Rattle.cleaner.specs.AfterClean.{after_clean}
 use Rattle.cleaner.specs.Cleaned.{IsCleanFault}
@@ -24,7 +24,7 @@ use Rattle.engine.specs.Batch.{IsLaterFault, height_fault, refusal_by}
 use Rattle.engine.specs.Calls.{after_writing, IsLateInWriting, IsWritingFault}
 use Rattle.engine.specs.Plays.{IsLateInStep, IsStepFault, IsLeftInStep}
 use Rattle.engine.specs.Refusal.{refusal, first_fault, deed_fault, fault_at, key_fault, value_fault, bound_fault}
-use Rattle.engine.specs.Steps.{Step, Stepped, HasWords, unless_refused, after_step, batching}
+use Rattle.engine.specs.Steps.{Step, Stepped, NumbersFit, unless_refused, after_step, batching}
 use Rattle.engine.specs.Steps.Step.{Batch, Clean}
 use Rattle.engine.specs.Steps.Answer.{Replies, Cleaned}
 use Rattle.engine.proofs.TextSteps.{step_by, answer_by, after_text_step}
@@ -64,13 +64,13 @@ module _ (s : Settings) where
   no_bound place None e = absurd (cc)
   no_bound place (Some hi) e = no_key place hi e
 
-  no_deed : (place : ℕ) (span : Span) (deed : Deed) → deed_fault s place span deed ≢ Some Device
+  no_deed : (place : ℕ) (span : Span) (deed : Access) → deed_fault s place span deed ≢ Some Device
   no_deed place (One k) (Gives v) = no_or (key_fault s place k) (value_fault s place v) (no_key place k) (no_value place v)
   no_deed place (One k) _ = no_key place k
   no_deed place (Range lo hi) deed = no_or (key_fault s place lo) (bound_fault s place hi) (no_key place lo) (no_bound place hi)
 
   no_command : (place : ℕ) (c : Command Global) → fault_at s place c ≢ Some Device
-  no_command place c = no_deed place (span_of c) (deed_of c)
+  no_command place c = no_deed place (span_of c) (access_of c)
 
   no_first : (place : ℕ) (cs : List (Command Global)) → first_fault s place cs ≢ Some Device
   no_first place [] e = absurd (cc)
@@ -133,8 +133,8 @@ admitted_without_device (Some f) r u fault other given was = λ device. (let sam
 
 -- ---- what is done
 
-pub words_of : (s : Settings) (st : Store) (x y : Step Global) → y ≡ x → HasWords (batching s) s st x → HasWords (batching s) s st y
-words_of s st x y same words = subst (λ (z : Step Global). HasWords (batching s) s st z) (sym same) words
+pub words_of : (s : Settings) (st : Store) (x y : Step Global) → y ≡ x → NumbersFit (batching s) s st x → NumbersFit (batching s) s st y
+words_of s st x y same words = subst (λ (z : Step Global). NumbersFit (batching s) s st z) (sym same) words
 
 module _ (s : Settings) (st now : Store) (file : List ℕ) (y : Step Global) where
   pub batch_done : (cs : List (Command Global)) (replies : List (Reply Global)) → y ≡ Batch cs → refusal_by s st.tree cs ≡ None → now ≡ plan s st cs → replies ≡ replies_to (contents st.tree) cs
@@ -145,7 +145,7 @@ module _ (s : Settings) (st now : Store) (file : List ℕ) (y : Step Global) whe
       ∙ ap (λ (x : Store). (let q : Stepped Global = Ok (Replies (replies_to (contents st.tree) cs), (x, file)) in q)) (sym is)
       ∙ ap (λ (rs : List (Reply Global)). (let q : Stepped Global = Ok (Replies rs, (now, file)) in q)) (sym are)
 
-  pub writing_done : (text : Text) (bytes : List ℕ) (n : ℕ) → y ≡ step_by text → n ≡ now.sequence → after_writing text s st file ≡ Ok (now, bytes)
+  pub writing_done : (text : CommitKind) (bytes : List ℕ) (n : ℕ) → y ≡ step_by text → n ≡ now.sequence → after_writing text s st file ≡ Ok (now, bytes)
       → after_step (batching s) s st file y ≡ Ok (answer_by text n, (now, bytes))
   writing_done text bytes n same is done =
       ap (after_step (batching s) s st file) same
@@ -159,11 +159,11 @@ module _ (s : Settings) (st now : Store) (file : List ℕ) (y : Step Global) whe
       ∙ ap (λ (r : Result (Store × List ℕ) Fault). (let q : Stepped Global = and_then r (λ p. Ok (Cleaned p.0.head, p)) in q)) done
       ∙ ap (λ (k : ℕ). (let q : Stepped Global = Ok (Cleaned k, (now, bytes)) in q)) (sym is)
 
-late_in : (text : Text) (s : Settings) (st : Store) (file : List ℕ) (old new : ℕ) (fault : Fault) → IsLateInWriting text s st file old new fault → IsLateInStep s st file old new (step_by text) fault
+late_in : (text : CommitKind) (s : Settings) (st : Store) (file : List ℕ) (old new : ℕ) (fault : Fault) → IsLateInWriting text s st file old new fault → IsLateInStep s st file old new (step_by text) fault
 late_in (texts.Flush version) s st file old new fault late = late
 late_in texts.Upgrade s st file old new fault late = late
 
-module _ (s : Settings) (st : Store) (file : List ℕ) (y : Step Global) (text : Text) (same : y ≡ step_by text) where
+module _ (s : Settings) (st : Store) (file : List ℕ) (y : Step Global) (text : CommitKind) (same : y ≡ step_by text) where
   pub writing_refused : (old new : ℕ) (fault : Fault) → IsWritingFault text s st file old new fault → IsStepFault s st file old new y fault
   writing_refused old new fault why = subst (λ (z : Step Global). IsStepFault s st file old new z fault) (sym same) (by why) where
     by : IsWritingFault text s st file old new fault → IsStepFault s st file old new (step_by text) fault

@@ -18,7 +18,7 @@ use Rattle.recovery.specs.StoreOfDisk.{store_of_disk}
 use Rattle.recovery.proofs.FlushBack.{left, same_store}
 use Rattle.recovery.proofs.KeptStore.{flushed-tree, flush-read_back, upgraded-tree, upgrade-read_back}
 use Rattle.cleaner.specs.AfterClean.{after_clean}
-use Rattle.engine.specs.Steps.{Step, Batching, Played, Stepped, unless_refused, played_on, plays, batches_among, HasWords, here_and_on, HaveWords, KeepsStores, ArePlayed}
+use Rattle.engine.specs.Steps.{Step, Batching, Played, Stepped, unless_refused, played_on, plays, batches_among, NumbersFit, here_and_on, AllNumbersFit, KeepsStores, ArePlayed}
 use Rattle.engine.specs.Steps.Step.{Batch, Flush, Clean, Upgrade}
 use Rattle.engine.specs.Steps.Answer.{Replies, Flushed, Cleaned, Upgraded}
 use Rattle.cleaner.proofs.CleanBack.{clean-done, clean-back, clean-in_step}
@@ -53,12 +53,12 @@ module _ {A : Type 0} (b : Batching A) (s : Settings) (keeps : KeepsStores s b) 
 
   -- what is played on from a store
   abbrev PlaysOn : List (Step A) → Type 0
-  PlaysOn xs = (st on_disk : Store) (file : List ℕ) → store_of_disk file ≡ Ok (s, on_disk) → IsStoreOf s st file → HaveWords b s st file xs
+  PlaysOn xs = (st on_disk : Store) (file : List ℕ) → store_of_disk file ≡ Ok (s, on_disk) → IsStoreOf s st file → AllNumbersFit b s st file xs
       → ArePlayed b s st.tree on_disk.tree xs (plays b s st file xs)
 
   -- the numbers of this step and of those after it
   abbrev WordsOn : Store → List (Step A) → Step A → Stepped A → Type 0
-  WordsOn st xs x r = here_and_on r (HasWords b s st x) (λ now bytes. HaveWords b s now bytes xs)
+  WordsOn st xs x r = here_and_on r (NumbersFit b s st x) (λ now bytes. AllNumbersFit b s now bytes xs)
 
   module _ (st on_disk : Store) (file : List ℕ) (xs : List (Step A)) (read : store_of_disk file ≡ Ok (s, on_disk)) (is : IsStoreOf s st file) (on : PlaysOn xs) where
     batch_on : (cs : List (Command A)) (o : Option Fault) → b.refusal st.tree cs ≡ o
@@ -80,7 +80,7 @@ module _ {A : Type 0} (b : Batching A) (s : Settings) (keeps : KeepsStores s b) 
         }
 
     -- on from what a flush or an upgrade left
-    further : (now : Store) (bytes : List ℕ) → (store_of_disk bytes ≡ Ok (s, now)) × IsStoreOf s now bytes → now.tree ≡ flushed st.tree → HaveWords b s now bytes xs
+    further : (now : Store) (bytes : List ℕ) → (store_of_disk bytes ≡ Ok (s, now)) × IsStoreOf s now bytes → now.tree ≡ flushed st.tree → AllNumbersFit b s now bytes xs
         → ArePlayed b s (flushed st.tree) (flushed st.tree) xs (plays b s now bytes xs)
     further now bytes (here, store) same words = subst (λ (t : Tree). ArePlayed b s t t xs (plays b s now bytes xs)) same (on now now bytes here store words)
 

@@ -16,7 +16,7 @@ use Rattle.mapping.specs.Proper.{Distinct, AreRisingPids}
 use Rattle.mapping.specs.Table.{Mapping, pids_in_use, place_of, page_of, at_home, with_place}
 use Rattle.mapping.specs.TreeInMemory.{TreeInMemory}
 use Rattle.routing.specs.Routes.{Route}
-use Rattle.page_runs.specs.LeafWork.{LeafHeld, LeafMade, LeafWorked, IsLeafHeld, leaf_made, leaf_answers}
+use Rattle.page_runs.specs.LeafWork.{LeafHeld, LeafMade, LeafUpdate, IsLeafHeld, leaf_made, leaf_answers}
 use Rattle.page_runs.specs.Reads.{IsRouteToRead, answers_at, is_only_read}
 use Rattle.page_runs.specs.Replies.{ArePlacesOf}
 use Rattle.replies.specs.ByPlace.{AreAnswers, blank_of, reply_at, with_pieces}
@@ -146,10 +146,10 @@ module _ (cs : List (Command Global)) where
 
   module _ (s : Settings) (t : Mapping PageOfKind) (now : TreeInMemory) where
     -- where a leaf that is only read stands as before, its task may be worked
-    worked_by : (r : Route) (b : Bool) → is_only_read cs r ≡ b → (is_only_read cs r ≡ true → place_of now.table r.pid ≡ place_of t r.pid) → IsLeafAt (page_of t r.pid) → ArePlacesOf cs r.places → MayBeWorked now cs (task_for t cs r)
-    worked_by r true e stays home places =
+    updated_by : (r : Route) (b : Bool) → is_only_read cs r ≡ b → (is_only_read cs r ≡ true → place_of now.table r.pid ≡ place_of t r.pid) → IsLeafAt (page_of t r.pid) → ArePlacesOf cs r.places → MayBeWorked now cs (task_for t cs r)
+    updated_by r true e stays home places =
         let there : IsRouteToRead now cs r = record { home = subst (λ (o : Option (Option PageOfKind)). IsLeafAt (at_home o)) (sym (stays e)) home; places = places } in rw e there
-    worked_by r false e stays home places =
+    updated_by r false e stays home places =
         let held : IsLeafHeld cs (leaf_held t r) = record { leaf = leaf_there (page_of t r.pid) home; places = places } in rw e held
 
     made_by : (r : Route) (b : Bool) → is_only_read cs r ≡ b → (is_only_read cs r ≡ true → place_of now.table r.pid ≡ place_of t r.pid) → IsLeafAt (page_of t r.pid) → task_made now s cs (task_for t cs r) ≡ made_for cs t s r
@@ -165,9 +165,9 @@ module _ (cs : List (Command Global)) where
           let ns : List ℕ = route_pids (written_routes cs all) in
           ap (λ (u : Mapping PageOfKind). place_of u r.pid) is ∙ taken_others t ns r.pid (not_among r.pid ns (a e))
 
-      all_worked : (rs : List Route) → AllByRecursion (IsApart all) rs → AllByRecursion (λ pid. IsLeafAt (page_of t pid)) (route_pids rs) → AllByRecursion (λ r. ArePlacesOf cs r.places) rs → AllByRecursion (MayBeWorked now cs) (map (task_for t cs) rs)
-      all_worked [] a h p = tt
-      all_worked (r ∷ rs) a h p = (worked_by r (is_only_read cs r) refl (stays_by r a.0) h.0 p.0, all_worked rs a.1 h.1 p.1)
+      all_updated : (rs : List Route) → AllByRecursion (IsApart all) rs → AllByRecursion (λ pid. IsLeafAt (page_of t pid)) (route_pids rs) → AllByRecursion (λ r. ArePlacesOf cs r.places) rs → AllByRecursion (MayBeWorked now cs) (map (task_for t cs) rs)
+      all_updated [] a h p = tt
+      all_updated (r ∷ rs) a h p = (updated_by r (is_only_read cs r) refl (stays_by r a.0) h.0 p.0, all_updated rs a.1 h.1 p.1)
 
       all_made : (rs : List Route) → AllByRecursion (IsApart all) rs → AllByRecursion (λ pid. IsLeafAt (page_of t pid)) (route_pids rs) → map (task_made now s cs) (map (task_for t cs) rs) ≡ map (made_for cs t s) rs
       all_made [] a h = refl
@@ -184,9 +184,9 @@ module _ (s : Settings) (cs : List (Command Global)) (tree now : TreeInMemory) (
   table_is = ap (λ (m : TreeInMemory). m.table) taken
 
   -- the tasks may be worked, once the leaves that may be changed were taken
-  pub may_be_worked : (js : List LeafTask) → map task_held js ≡ map (task_for tree.table cs) rs → All (λ j. MayBeWorked now cs (task_held j)) js
-  may_be_worked js e =
-      let each = all_worked cs s tree.table now rs table_is rs (all_apart cs rs routes.distinct) routes.home routes.places in
+  pub may_be_updated : (js : List LeafTask) → map task_held js ≡ map (task_for tree.table cs) rs → All (λ j. MayBeWorked now cs (task_held j)) js
+  may_be_updated js e =
+      let each = all_updated cs s tree.table now rs table_is rs (all_apart cs rs routes.distinct) routes.home routes.places in
       All-from_recursion (λ (j : LeafTask). MayBeWorked now cs (task_held j)) js (held_by now cs js (subst (λ (hs : List TaskHeld). AllByRecursion (MayBeWorked now cs) hs) (sym e) each))
 
   -- and what is made of them
@@ -306,17 +306,17 @@ module _ (t : Mapping PageOfKind) (cs : List (Command Global)) (rs : List Route)
 
 -- ---- answers are taken, one leaf after the other
 
-without_in : (d : TaskDone) (ds : List LeafWorked) → map without_answers (changed_in d) ++ map without_answers ds ≡ map without_answers (changed_in d ++ ds)
+without_in : (d : TaskDone) (ds : List LeafUpdate) → map without_answers (changed_in d) ++ map without_answers ds ≡ map without_answers (changed_in d ++ ds)
 without_in (WasRead d) ds = refl
 without_in (WasChanged d) ds = refl
 
 -- the next leaf goes onto the list if it was changed
-pub asked_next : (old new : List LeafWorked) (d : TaskDone) (ds all : List TaskDone) (last : List LeafWorked) → all ≡ d ∷ ds → new ≡ old ++ map without_answers (changed_in d) → old ++ map without_answers (changed_of all) ≡ last
+pub asked_next : (old new : List LeafUpdate) (d : TaskDone) (ds all : List TaskDone) (last : List LeafUpdate) → all ≡ d ∷ ds → new ≡ old ++ map without_answers (changed_in d) → old ++ map without_answers (changed_of all) ≡ last
     → new ++ map without_answers (changed_of ds) ≡ last
 asked_next old new d ds all last e n h =
-    ap (λ (xs : List LeafWorked). xs ++ map without_answers (changed_of ds)) n
+    ap (λ (xs : List LeafUpdate). xs ++ map without_answers (changed_of ds)) n
     ∙ append_assoc old (map without_answers (changed_in d)) (map without_answers (changed_of ds))
-    ∙ ap (λ (xs : List LeafWorked). old ++ xs) (without_in d (changed_of ds))
+    ∙ ap (λ (xs : List LeafUpdate). old ++ xs) (without_in d (changed_of ds))
     ∙ ap (λ (xs : List TaskDone). old ++ map without_answers (changed_of xs)) (sym e)
     ∙ h
 

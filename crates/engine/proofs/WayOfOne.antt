@@ -24,7 +24,7 @@ use Rattle.mapping.specs.Levels.{Placed, entries, joined, name, names, levels_of
 use Rattle.mapping.specs.Proper.{next_low, Tiled, AreLevels, HasLeaves, HoldsLevels}
 use Rattle.mapping.specs.Tree.{Tree, page_at}
 use Rattle.mapping.proofs.Joined.{next_joined}
-use Rattle.mapping.proofs.TileLemmas.{Names, next_names, joined-append, range-names, rising-joined, page_for, value_at-joined}
+use Rattle.mapping.proofs.TileLemmas.{Separators, next_names, joined-append, range-names, rising-joined, page_for, value_at-joined}
 use Rattle.engine.specs.LeafFor.{IsLeafFor}
 use Rattle.routing.specs.Routes.{Route, meets_page, goes_to, has_some, has_places, route_to, ranges, routes}
 use Rattle.routing.proofs.DescentLemmas.{IsIndexLevel, names_at, level_at, names-leaves}
@@ -49,7 +49,7 @@ module _ (k : List ℕ) where
   abbrev pids_of : List Place → List ℕ
   pids_of ats = map (λ at. at.pid) (filter (is_place_for k) ats)
 
-  abbrev pub pids_for : Names → List ℕ
+  abbrev pub pids_for : Separators → List ℕ
   pids_for ns = pids_of (children ns None)
 
   pids_of-append : (xs ys : List Place) → pids_of (xs ++ ys) ≡ pids_of xs ++ pids_of ys
@@ -62,7 +62,7 @@ module _ (k : List ℕ) where
   from_all = within [] None k (from_nothing (k ∷ [])).0 refl
 
   -- of names that rise from the least key on, one is for the key
-  one_pid : (ns : Names) → IsRising ns → next_key ns None ≡ Some [] → length (pids_for ns) ≡ 1
+  one_pid : (ns : Separators) → IsRising ns → next_key ns None ≡ Some [] → length (pids_for ns) ≡ 1
   one_pid [] r f = absurd (cc)
   one_pid (e ∷ es) r f =
       let low : [] ≡ e.0 = cc in
@@ -106,7 +106,7 @@ module _ (k : List ℕ) where
       below_by : (pages : List (ℕ × PageOfKind)) (up xs ys : List (Placed ℕ)) (p : Placed ℕ) → IsIndexLevel pages None up → next_low up None ≡ Some [] → up ≡ xs ++ p ∷ ys → AllByRecursion (λ q. IsHeaded 1 q.page) ys → is_before (next_low ys None) k ≡ true
           → (next : ℕ) → ((end : Option (List ℕ)) → is_before end k ≡ true → pids_of (children (entries p) end) ≡ next ∷ []) → pids_for (joined up) ≡ next ∷ []
       below_by pages up xs ys p l f e hd b next has =
-          let later : Names = joined ys in
+          let later : Separators = joined ys in
           let end : Option (List ℕ) = next_key later None in
           let inside : is_before end k ≡ true = ap (λ (x : Option (List ℕ)). is_before x k) (next_joined ys None hd) ∙ b in
           let before : List Place = children (joined xs) (next_key (entries p ++ later) None) in
@@ -114,7 +114,7 @@ module _ (k : List ℕ) where
           let after : List Place = children later None in
           let parts : pids_for (joined up) ≡ pids_of before ++ next ∷ pids_of after =
           ap (λ (qs : List (Placed ℕ)). pids_for (joined qs)) e
-          ∙ ap (λ (ns : Names). pids_for ns) (joined-append xs (p ∷ ys))
+          ∙ ap (λ (ns : Separators). pids_for ns) (joined-append xs (p ∷ ys))
           ∙ ap (λ (ats : List Place). pids_of ats) (children-append (joined xs) (entries p ++ later) None)
           ∙ pids_of-append before (children (entries p ++ later) None)
           ∙ ap (λ (ats : List Place). pids_of before ++ pids_of ats) (children-append (entries p) later None)
@@ -168,13 +168,13 @@ module _ (t : Tree) (held : HoldsLevels t.pages (levels_of t)) (levels : AreLeve
   first_at (suc i) l =
       let w : i < pred t.height = omega arith in
       let here = level_at t held levels i w in
-      ap (λ (ns : Names). next_key ns None) here.below ∙ next_joined here.level None here.known.headed ∙ sym (next_names here.level None) ∙ ap (λ (ns : Names). next_key ns None) (sym here.named) ∙ first_at i w
+      ap (λ (ns : Separators). next_key ns None) here.below ∙ next_joined here.level None here.known.headed ∙ sym (next_names here.level None) ∙ ap (λ (ns : Separators). next_key ns None) (sym here.named) ∙ first_at i w
 
   found_at : (i pid : ℕ) (l : i < pred t.height) → IsOnWay i pid → IsFound k t.pages (level_at t held levels i l).level pid
   found_at i pid l w =
       let here = level_at t held levels i l in
-      let first : next_low here.level None ≡ Some [] = sym (next_names here.level None) ∙ ap (λ (ns : Names). next_key ns None) (sym here.named) ∙ first_at i l in
-      found k t.pages here.level pid here.known first (ap (λ (ns : Names). pids_for k ns) (sym here.named) ∙ w)
+      let first : next_low here.level None ≡ Some [] = sym (next_names here.level None) ∙ ap (λ (ns : Separators). next_key ns None) (sym here.named) ∙ first_at i l in
+      found k t.pages here.level pid here.known first (ap (λ (ns : Separators). pids_for k ns) (sym here.named) ∙ w)
 
   -- above the leaves there is an index page, with a child for the key
   pub has_child : (i pid : ℕ) (page : PageOfKind) → i < pred t.height → IsOnWay i pid → Some page ≡ page_at t.pages pid → HasChildFor page k
@@ -200,14 +200,14 @@ module _ (t : Tree) (held : HoldsLevels t.pages (levels_of t)) (levels : AreLeve
       let here = level_at t held levels i l in
       let n : suc i ≡ i + 1 = omega arith in
       let down : pids_for k (joined here.level) ≡ child ∷ [] = r.down child (subst (λ (p : PageOfKind). (end : Option (List ℕ)) → is_before end k ≡ true → pids_of k (children (child_entries p) end) ≡ child ∷ []) same has) in
-      subst (λ (j : ℕ). IsOnWay j child) n (ap (λ (ns : Names). pids_for k ns) here.below ∙ down)
+      subst (λ (j : ℕ). IsOnWay j child) n (ap (λ (ns : Separators). pids_for k ns) here.below ∙ down)
 
   -- at the leaves it is that of the leaf for the key
   pub leaf_at_end : (i pid : ℕ) → i ≡ pred t.height → IsOnWay i pid → IsLeafFor t k pid
   leaf_at_end i pid e w =
       let r =
       leaf_found k t.pages (levels_of t).level pid held.leaves levels.tiled levels.first
-      (ap (λ (ns : Names). pids_for k ns) (sym (names-leaves t held levels)) ∙ subst (λ (j : ℕ). pids_for k (names_at t.pages t.root j) ≡ pid ∷ []) e w) in
+      (ap (λ (ns : Separators). pids_for k ns) (sym (names-leaves t held levels)) ∙ subst (λ (j : ℕ). pids_for k (names_at t.pages t.root j) ≡ pid ∷ []) e w) in
       record { page = r.leaf.page; home = r.home; value = r.value }
 
 -- what is held under its pid has at the key what the tree has there
@@ -243,5 +243,5 @@ module _ (c : Command Global) (point : is_ranged c ≡ false) where
   -- of a command on one key there is one route, to its leaf
   pub only_route : (t : Tree) (held : HoldsLevels t.pages (levels_of t)) (levels : AreLevels (levels_of t)) (i pid : ℕ) → i ≡ pred t.height → IsOnWay t held levels (key_of c) i pid → routes (levels_of t).level (c ∷ []) ≡ route_alone pid ∷ []
   only_route t held levels i pid e w =
-      let at : pids_for (key_of c) (names (levels_of t).level) ≡ pid ∷ [] = ap (λ (ns : Names). pids_for (key_of c) ns) (sym (names-leaves t held levels)) ∙ subst (λ (j : ℕ). pids_for (key_of c) (names_at t.pages t.root j) ≡ pid ∷ []) e w in
+      let at : pids_for (key_of c) (names (levels_of t).level) ≡ pid ∷ [] = ap (λ (ns : Separators). pids_for (key_of c) ns) (sym (names-leaves t held levels)) ∙ subst (λ (j : ℕ). pids_for (key_of c) (names_at t.pages t.root j) ≡ pid ∷ []) e w in
       routes_alone (ranges (levels_of t).level) ∙ ap (λ (ns : List ℕ). map route_alone ns) at

@@ -7,7 +7,7 @@ use Rattle.keys.specs.declared.command.Command.{Command}
 use Rattle.keys.specs.declared.fault.Fault.{Fault}
 use Rattle.keys.specs.declared.fault.Fault.TheVariants.{Device, Failed, NoMemory}
 use Rattle.keys.specs.declared.settings.Settings.{Settings}
-use Rattle.flush_log.specs.Disk.{View, IsSettled, Kept, LeavesOnly}
+use Rattle.flush_log.specs.Disk.{View, IsSynced, Kept, LeavesOnly}
 use Rattle.engine.specs.Batches.{map_in_turn}
 use Rattle.engine.specs.Claim.{Held}
 use Rattle.engine.specs.Steps.{Step, Answer, batches_among}
@@ -90,9 +90,9 @@ pub record IsTurnOf {State : Type 0} (recovered : Bytes → Option Held) (calls 
   pub none : old.has_failed ≡ true → xs ≡ []
   pub durable : IsTrue old.disk.is_honest → recovered new.disk.seen ≡ durable_after old.settings (recovered old.disk.seen) old.contents xs
   pub state : IsTrue old.disk.is_honest → state_after calls old.settings old.state old.disk.seen xs ≡ Some (new.state, new.disk.seen)
-  pub settled : IsSettled old.disk → IsSettled new.disk
+  pub is_synced : IsSynced old.disk → IsSynced new.disk
   -- a crash at any moment leaves what was durable after some of the steps
-  pub crash : IsSettled old.disk → LeavesOnly old.disk new.disk (λ c. IsDurableAfterSome old.settings (recovered old.disk.seen) old.contents xs (recovered c))
+  pub crash : IsSynced old.disk → LeavesOnly old.disk new.disk (λ c. IsDurableAfterSome old.settings (recovered old.disk.seen) old.contents xs (recovered c))
 
 -- These steps succeeded, and then the step `x` failed with this fault. It has changed nothing, unless the fault is `Device`: then the store is a
 -- failed one, and a crash leaves what was durable before `x`, or what `x` would have made durable.
@@ -104,6 +104,6 @@ pub record IsStoppedOf {State : Type 0} (recovered : Bytes → Option Held) (cal
   pub turn : fault ≢ Device → IsTurnOf recovered calls old xs answers new
   pub device : fault ≡ Device → new.has_failed ≡ true
   -- a crash during the play, and one after it
-  pub crash : IsSettled old.disk → LeavesOnly old.disk new.disk (λ c. IsDurableAfterSome old.settings (recovered old.disk.seen) old.contents (xs ++ x ∷ []) (recovered c))
-  pub following : IsSettled old.disk → (c : Bytes) → new.disk.may_leave c →
+  pub crash : IsSynced old.disk → LeavesOnly old.disk new.disk (λ c. IsDurableAfterSome old.settings (recovered old.disk.seen) old.contents (xs ++ x ∷ []) (recovered c))
+  pub following : IsSynced old.disk → (c : Bytes) → new.disk.may_leave c →
       (recovered c ≡ durable_after old.settings (recovered old.disk.seen) old.contents xs) ⊎ (recovered c ≡ durable_after old.settings (recovered old.disk.seen) old.contents (xs ++ x ∷ []))

@@ -8,8 +8,8 @@ use Rattle.keys.specs.declared.settings.Settings.{Settings}
 use Rattle.mapping.specs.Levels.{contents}
 use Rattle.mapping.specs.Tree.{Store}
 use Rattle.flush_log.specs.AfterFlush.{after_flush}
-use Rattle.flush_log.specs.Disk.{View, IsSettled, Kept, LeavesOnly}
-use Rattle.flush_log.specs.FlushText.{flush_text}
+use Rattle.flush_log.specs.Disk.{View, IsSynced, Kept, LeavesOnly}
+use Rattle.flush_log.specs.FlushText.{flush_frames}
 use Rattle.flush_log.specs.Segments.{last_segment}
 use Rattle.cleaner.specs.PagesRead.{PagesRead}
 use Rattle.engine.specs.Cleans.{cleans, IsReadFor, IsOnlyRead, IsRefusedClean}
@@ -38,7 +38,7 @@ IsOverfull s st file = (live : ℕ) × (live_known s st file ≡ Some live) × (
 
 -- a flush is due while few segments are free, enough bytes of the log are dead for a row of cleans, and not too many live for the flush
 pub record IsEarly (s : Settings) (st : Store) (file : Bytes) : Type 0 where
-  pub due : flush_text st.version st.tree ≢ []
+  pub due : flush_frames st.version st.tree ≢ []
   pub tight : is_tight s st ≡ true
   pub live : ℕ
   pub known : live_known s st file ≡ Some live
@@ -179,7 +179,7 @@ pub record IsStoppedCleaning {D : Type 0} (view : D → View) (failures : D → 
   pub why : (file : Bytes) × (IsTrue (view old.disk).is_honest → file ≡ (plays (batching old.settings) old.settings old.store (view old.disk).seen (cleans (count_of rows))).bytes)
       × IsStop old.settings now.store file (failures old.disk) (failures now.disk) (count_of rows) step fault
   -- a crash at any moment leaves the store after some of all these steps
-  pub crash : old.has_failed ≡ false → IsSettled (view old.disk)
+  pub crash : old.has_failed ≡ false → IsSynced (view old.disk)
       → LeavesOnly (view old.disk) (view now.disk) (StandsAfterSome (batching old.settings) old.settings old.store (view old.disk).seen (cleans (count_of rows) ++ step ∷ []))
 
 -- the store that is cleaned and flushed: as it was; or compacted, which it is only if a flush is due, its log is two thirds full, and its
@@ -187,7 +187,7 @@ pub record IsStoppedCleaning {D : Type 0} (view : D → View) (failures : D → 
 abbrev pub IsStart : {D : Type 0} → State D → State D → Type 0
 IsStart old start =
     (start ≡ old)
-    ⊎ ((flush_text old.store.version old.store.tree ≢ []) × (is_two_thirds_full old.settings old.store ≡ true) × (is_bloated old.settings old.store.tree ≡ true) × IsCompacted old.settings old.store start.store
+    ⊎ ((flush_frames old.store.version old.store.tree ≢ []) × (is_two_thirds_full old.settings old.store ≡ true) × (is_bloated old.settings old.store.tree ≡ true) × IsCompacted old.settings old.store start.store
     × (start.settings ≡ old.settings) × (start.disk ≡ old.disk) × (start.has_failed ≡ old.has_failed))
 
 -- ---- parts of it

@@ -4,7 +4,7 @@ use Rattle.std.specs.declared.alloc.Global.{Global}
 use Rattle.keys.specs.Bytes.{Bytes}
 use Rattle.keys.specs.declared.fault.Fault.{Fault}
 use Rattle.keys.specs.declared.fault.Fault.TheVariants.{Device}
-use Rattle.flush_log.specs.Disk.{View, IsSettled, Kept, Same, LeavesOnly}
+use Rattle.flush_log.specs.Disk.{View, IsSynced, Kept, Same, LeavesOnly}
 use Rattle.flush_log.specs.Ends.{ends_of}
 use Rattle.cleaner.specs.PagesRead.{PagesRead, IsReadingOf}
 use Rattle.engine.specs.Plays.{IsPlayed, IsPlayedOn, IsStepDone, IsStepFault, IsLeftInStep, answer_of}
@@ -42,7 +42,7 @@ pub record AreStopped {D : Type 0} (view : D → View) (failures : D → ℕ) (o
   pub why : (file : Bytes) × (IsTrue (view old.disk).is_honest → file ≡ (plays (batching old.settings) old.settings old.store (view old.disk).seen (cleans count)).bytes)
       × IsStepFault old.settings now.store file (failures old.disk) (failures now.disk) Clean fault
   -- a crash at any moment leaves the store after some of all these cleans
-  pub crash : old.has_failed ≡ false → IsSettled (view old.disk)
+  pub crash : old.has_failed ≡ false → IsSynced (view old.disk)
       → LeavesOnly (view old.disk) (view now.disk) (StandsAfterSome (batching old.settings) old.settings old.store (view old.disk).seen (cleans count ++ Clean ∷ []))
 
 -- ---- one of them
@@ -62,7 +62,7 @@ pub record IsOnlyRead {D : Type 0} (view : D → View) (failures : D → ℕ) (o
 -- a crash during a clean leaves the store before it, or the bytes after it
 abbrev pub IsLeftInClean : {D : Type 0} → (D → View) → State D → State D → Type 0
 IsLeftInClean view old now =
-    old.has_failed ≡ false → IsSettled (view old.disk) → LeavesOnly (view old.disk) (view now.disk) (IsLeftInStep old.settings old.store (view old.disk).seen Clean)
+    old.has_failed ≡ false → IsSynced (view old.disk) → LeavesOnly (view old.disk) (view now.disk) (IsLeftInStep old.settings old.store (view old.disk).seen Clean)
 
 -- a clean was done, as a step of a play is
 pub record IsDoneClean {D : Type 0} (view : D → View) (failures : D → ℕ) (old now : State D) (head : ℕ) : Type 0 where
@@ -71,7 +71,7 @@ pub record IsDoneClean {D : Type 0} (view : D → View) (failures : D → ℕ) (
   pub counted : (now.has_failed ≡ old.has_failed) × (failures now.disk ≡ failures old.disk)
   pub bytes : IsTrue (view old.disk).is_honest
       → after_step (batching old.settings) old.settings old.store (view old.disk).seen Clean ≡ Ok (answer_of (Cleaned head), (now.store, (view now.disk).seen))
-  pub settled : IsSettled (view old.disk) → IsSettled (view now.disk)
+  pub is_synced : IsSynced (view old.disk) → IsSynced (view now.disk)
   pub crash : IsLeftInClean view old now
   pub sound : IsSound view now
 

@@ -16,7 +16,7 @@ use Rattle.mapping.specs.Table.{Mapping, page_of}
 use Rattle.mapping.specs.Tree.{Tree}
 use Rattle.routing.specs.Routes.{Route, ranges}
 use Rattle.routing.specs.Runs.{AreRunsOf}
-use Rattle.page_runs.specs.LeafWork.{LeafHeld, LeafMade, LeafWorked, leaf_made}
+use Rattle.page_runs.specs.LeafWork.{LeafHeld, LeafMade, LeafUpdate, leaf_made}
 use Rattle.page_runs.specs.Reads.{ReadLeaf, is_only_read}
 pub use Rattle.page_runs.specs.Reads.{IsLeafAt}
 use Rattle.page_runs.specs.Replies.{ArePlacesOf}
@@ -66,8 +66,8 @@ abbrev pub written_routes : List (Command Global) → List Route → List Route
 written_routes cs rs = filter (is_written cs) rs
 
 -- leaves that were worked, without their answers
-abbrev pub without_answers : LeafWorked → LeafWorked
-without_answers d = record { held = d.held; made = record { worked = d.made.worked; pieces = [] } }
+abbrev pub without_answers : LeafUpdate → LeafUpdate
+without_answers d = record { held = d.held; made = record { updated = d.made.updated; pieces = [] } }
 
 -- the answers of leaves that were read, leaf by leaf
 abbrev pub read_answers : List ReadLeaf → List (List (Piece Global))

@@ -5,7 +5,7 @@ use Rattle.keys.specs.declared.command.Command.{Command}
 use Rattle.mapping.specs.Levels.{levels_of}
 use Rattle.mapping.specs.Tree.{Tree}
 use Rattle.routing.specs.Routes.{Route, routes}
-use Rattle.page_runs.specs.Worked.{Worked, is_thin_class, is_fat_class}
+use Rattle.page_runs.specs.Updated.{Updated, is_thin_class, is_fat_class}
 
 -- the commands go to one leaf, by this route
 abbrev pub IsOnlyRoute : Tree → List (Command Global) → Route → Type 0
@@ -16,5 +16,5 @@ abbrev pub IsOnlyLeaf : Tree → Command Global → ℕ → Type 0
 IsOnlyLeaf t c pid = IsOnlyRoute t (c ∷ []) (record { pid = pid; places = 0 ∷ [] })
 
 -- whether a page after its run was not replaced, and is neither thin nor fat
-abbrev pub is_quiet : {V : Type 0} → Worked V → Bool
+abbrev pub is_quiet : {V : Type 0} → Updated V → Bool
 is_quiet w = not w.replaced && not (is_thin_class w.class || is_fat_class w.class)

@@ -7,12 +7,12 @@ use Rattle.keys.specs.declared.fault.Fault.TheVariants.{NoMemory, Device}
 use Rattle.keys.specs.declared.settings.Settings.{Settings}
 use Rattle.mapping.specs.Tree.{Store}
 use Rattle.flush_log.specs.Segments.{last_segment}
-use Rattle.flush_log.specs.declared.text.Text.TheVariants as texts
+use Rattle.flush_log.specs.declared.text.CommitKind.TheVariants as texts
 use Rattle.recovery.specs.Recovered.{IsLate}
 use Rattle.recovery.specs.StoreOfDisk.{store_of_disk}
 use Rattle.engine.specs.Calls.{IsLateInWriting}
 use Rattle.engine.specs.Refusal.{refusal}
-use Rattle.engine.specs.Steps.{Step, Answer, HasWords, batching, after_step, plays}
+use Rattle.engine.specs.Steps.{Step, Answer, NumbersFit, batching, after_step, plays}
 use Rattle.engine.specs.Steps.Step.{Batch, Flush, Clean, Upgrade}
 use Rattle.engine.specs.Steps.Answer.{Replies, Flushed, Cleaned, Upgraded}
 use Rattle.engine.specs.declared.step.Step as code_step
@@ -72,7 +72,7 @@ pub record IsStepDone (honest : Bool) (s : Settings) (st : Store) (left : Bytes)
   pub file : Bytes
   pub shown : IsTrue honest → file ≡ left
   pub done : after_step (batching s) s st file x ≡ Ok (answer_of a, (now, bytes))
-  pub words : HasWords (batching s) s st x
+  pub words : NumbersFit (batching s) s st x
 
 -- so were these steps, one after the other, and answered so
 abbrev pub IsPlayed : Bool → Settings → Store → Bytes → List (Step Global) → List code_answer.Answer → Store → Type 0

@@ -2,7 +2,7 @@
 use Rattle.std.specs.Prelude.{ℕ, ◌+◌, nat_lt, length, if◌then◌else◌, List, [], ◌∷◌, Option, Some, None}
 use Rattle.std.specs.Option.{option_or}
 use Rattle.keys.specs.Bytes.{Bytes}
-use Rattle.keys.specs.Footprint.{Span, One, Range, Deed, Gives, span_of, deed_of}
+use Rattle.keys.specs.Footprint.{Span, One, Range, Access, Gives, span_of, access_of}
 use Rattle.keys.specs.declared.settings.Settings.{Settings}
 use Rattle.keys.specs.declared.command.Command.{Command}
 use Rattle.keys.specs.declared.fault.Fault.{Fault}
@@ -23,14 +23,14 @@ bound_fault s place None = None
 bound_fault s place (Some hi) = key_fault s place hi
 
 -- what is wrong with a deed on a span at this place: its key comes before its value, and a lower bound before an upper one
-abbrev pub deed_fault : Settings → ℕ → Span → Deed → Option Fault
+abbrev pub deed_fault : Settings → ℕ → Span → Access → Option Fault
 deed_fault s place (One k) (Gives v) = option_or (key_fault s place k) (value_fault s place v)
 deed_fault s place (One k) deed = key_fault s place k
 deed_fault s place (Range lo hi) deed = option_or (key_fault s place lo) (bound_fault s place hi)
 
 -- what is wrong with the command at this place
 abbrev pub fault_at : {A : Type 0} → Settings → ℕ → Command A → Option Fault
-fault_at s place c = deed_fault s place (span_of c) (deed_of c)
+fault_at s place c = deed_fault s place (span_of c) (access_of c)
 
 -- the fault of the first command that has one, where the list begins at this place of the batch
 abbrev pub first_fault : {A : Type 0} → Settings → ℕ → List (Command A) → Option Fault

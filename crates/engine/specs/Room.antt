@@ -7,7 +7,7 @@ use Rattle.mapping.specs.Levels.{contents}
 use Rattle.mapping.specs.Tree.{Store, Tree}
 use Rattle.frame_codec.specs.Frame.{bytes_of}
 use Rattle.flush_log.specs.Ends.{ends_of}
-use Rattle.flush_log.specs.FlushText.{flush_text}
+use Rattle.flush_log.specs.FlushText.{flush_frames}
 use Rattle.flush_log.specs.Segments.{last_segment}
 use Rattle.cleaner.specs.Live.{live_in}
 
@@ -37,7 +37,7 @@ is_worth s st live = nat_le (max s.seg_size (room_in_use s st / 16)) (room_in_us
 
 -- how many bytes the frames have that a flush writes
 abbrev pub flush_bytes : Store → ℕ
-flush_bytes st = sum_by (λ f. length (bytes_of f)) (flush_text st.version st.tree)
+flush_bytes st = sum_by (λ f. length (bytes_of f)) (flush_frames st.version st.tree)
 
 -- how many bytes of frames a segment holds, if its end, where the next frame did not fit, has 32 for each entry of a page, but at most an eighth
 -- of the segment

@@ -12,7 +12,7 @@ use Rattle.mapping.specs.Tree.{Tree, Store, with_tree}
 use Rattle.flush_log.specs.AfterFlush.{after_flush, after_upgrade, flush_calls, upgrade_calls}
 use Rattle.flush_log.specs.Commit.{Call, LeftDuring}
 use Rattle.flush_log.specs.FlushText.{HasFrames, flushed}
-use Rattle.flush_log.specs.declared.text.Text.TheVariants as texts
+use Rattle.flush_log.specs.declared.text.CommitKind.TheVariants as texts
 use Rattle.recovery.specs.InStep.{IsStoreOf}
 use Rattle.recovery.specs.StoreOfDisk.{and_then, store_of_disk}
 use Rattle.climb_plan.specs.Plan.{planned_tree}
@@ -118,11 +118,11 @@ last_written b written now (Upgrade ∷ xs) = last_written b (flushed now) (flus
 -- ---- what is asked of their numbers
 
 -- a step's numbers have 64 bits, as all have in memory: those of a flush's or an upgrade's frames, and the root's page id after a batch
-abbrev pub HasWords : {A : Type 0} → Batching A → Settings → Store → Step A → Type 0
-HasWords b s st (Batch cs) = (b.planned st.tree cs).root < 2 ^ 64
-HasWords b s st Flush = HasFrames s (texts.Flush st.version) st.tree
-HasWords b s st Clean = ⊤
-HasWords b s st Upgrade = HasFrames s texts.Upgrade st.tree
+abbrev pub NumbersFit : {A : Type 0} → Batching A → Settings → Store → Step A → Type 0
+NumbersFit b s st (Batch cs) = (b.planned st.tree cs).root < 2 ^ 64
+NumbersFit b s st Flush = HasFrames s (texts.Flush st.version) st.tree
+NumbersFit b s st Clean = ⊤
+NumbersFit b s st Upgrade = HasFrames s texts.Upgrade st.tree
 
 -- what is so of a step, and of those after it; nothing of one that is refused
 abbrev pub here_and_on : {A : Type 0} → Stepped A → Type 0 → (Store → Bytes → Type 0) → Type 0
@@ -130,9 +130,9 @@ here_and_on (Ok p) here next = here × next p.1.0 p.1.1
 here_and_on (Err fault) here next = ⊤
 
 -- the numbers of the steps that are played have 64 bits
-abbrev pub HaveWords : {A : Type 0} → Batching A → Settings → Store → Bytes → List (Step A) → Type 0
-HaveWords b s st file [] = ⊤
-HaveWords b s st file (x ∷ xs) = here_and_on (after_step b s st file x) (HasWords b s st x) (λ now bytes. HaveWords b s now bytes xs)
+abbrev pub AllNumbersFit : {A : Type 0} → Batching A → Settings → Store → Bytes → List (Step A) → Type 0
+AllNumbersFit b s st file [] = ⊤
+AllNumbersFit b s st file (x ∷ xs) = here_and_on (after_step b s st file x) (NumbersFit b s st x) (λ now bytes. AllNumbersFit b s now bytes xs)
 
 -- ---- what a crash leaves
 

@@ -9,7 +9,7 @@ use Rattle.index_page.specs.Page.{PageOfKind}
 use Rattle.mapping.specs.Table.{Mapping}
 use Rattle.mapping.specs.TreeInMemory.{TreeInMemory}
 use Rattle.routing.specs.Routes.{Route}
-use Rattle.page_runs.specs.LeafWork.{LeafHeld, LeafMade, LeafWorked, IsLeafHeld, leaf_made, leaf_held_of}
+use Rattle.page_runs.specs.LeafWork.{LeafHeld, LeafMade, LeafUpdate, IsLeafHeld, leaf_made, leaf_held_of}
 use Rattle.page_runs.specs.Reads.{IsRouteToRead, route_answers, is_only_read}
 use Rattle.engine.specs.Leaves.{leaf_held}
 use Rattle.engine.specs.declared.leaf_tasks.LeafTask.{LeafTask}
@@ -70,12 +70,12 @@ abbrev pub under_pids : List LeafHeld → List (ℕ × PageOfKind)
 under_pids hs = map (λ h. (h.route.pid, h.page)) hs
 
 -- the leaf that was changed, if one was
-abbrev pub changed_in : TaskDone → List LeafWorked
+abbrev pub changed_in : TaskDone → List LeafUpdate
 changed_in (WasRead d) = []
 changed_in (WasChanged d) = d ∷ []
 
 -- the leaves that were changed
-abbrev pub changed_of : List TaskDone → List LeafWorked
+abbrev pub changed_of : List TaskDone → List LeafUpdate
 changed_of ds = flat_map changed_in ds
 
 -- the answers of a leaf

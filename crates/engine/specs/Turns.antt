@@ -4,10 +4,10 @@ use Rattle.std.specs.declared.alloc.Global.{Global}
 use Rattle.keys.specs.Bytes.{Bytes}
 use Rattle.keys.specs.declared.settings.Settings.{Settings}
 use Rattle.mapping.specs.Tree.{Store}
-use Rattle.flush_log.specs.Disk.{View, IsSettled, Kept, LeavesOnly}
+use Rattle.flush_log.specs.Disk.{View, IsSynced, Kept, LeavesOnly}
 use Rattle.engine.specs.Plays.{IsPlayed, IsPlayedOn, IsStepDone}
 use Rattle.engine.specs.State.{State, IsSound}
-use Rattle.engine.specs.Steps.{Step, StandsAfterSome, HaveWords, batching, plays}
+use Rattle.engine.specs.Steps.{Step, StandsAfterSome, AllNumbersFit, batching, plays}
 use Rattle.engine.specs.declared.step.Answer as code_answer
 
 -- these steps were done one after the other, as `IsPlayed` says, and left these bytes last
@@ -29,8 +29,8 @@ pub record IsTurn {D : Type 0} (view : D → View) (failures : D → ℕ) (old :
   pub trace : (last : Bytes) × IsPlayedTo (view old.disk).is_honest old.settings old.store (view old.disk).seen xs said now.store last × (IsTrue (view old.disk).is_honest → last ≡ (view now.disk).seen)
   pub played : IsPlayed (view old.disk).is_honest old.settings old.store (view old.disk).seen xs said now.store
   pub exact : IsTrue (view old.disk).is_honest → IsPlayedOn old.settings old.store (view old.disk).seen xs said now.store
-  pub words : IsTrue (view old.disk).is_honest → HaveWords (batching old.settings) old.settings old.store (view old.disk).seen xs
+  pub words : IsTrue (view old.disk).is_honest → AllNumbersFit (batching old.settings) old.settings old.store (view old.disk).seen xs
   pub bytes : IsTrue (view old.disk).is_honest → (view now.disk).seen ≡ (plays (batching old.settings) old.settings old.store (view old.disk).seen xs).bytes
-  pub settled : IsSettled (view old.disk) → IsSettled (view now.disk)
-  pub crash : old.has_failed ≡ false → IsSettled (view old.disk)
+  pub is_synced : IsSynced (view old.disk) → IsSynced (view now.disk)
+  pub crash : old.has_failed ≡ false → IsSynced (view old.disk)
       → LeavesOnly (view old.disk) (view now.disk) (StandsAfterSome (batching old.settings) old.settings old.store (view old.disk).seen xs)

@@ -12,7 +12,7 @@ ghost use Rattle.mapping.specs.Proper.{AreLevels, HoldsItsLevels};
 ghost use Rattle.mapping.specs.Tree as definitions;
 ghost use Rattle.mapping.specs.Tree.{most_levels};
 ghost use Rattle.mapping.specs.TreeInMemory.{AreAllHome, tree_of};
-ghost use Rattle.page_runs.specs.Reads.{is_look};
+ghost use Rattle.page_runs.specs.Reads.{is_read_only};
 ghost use Rattle.replies.specs.ByPlace.{most_counted};
 ghost use Rattle.replies.specs.InTurn.{points_of};
 ghost use Rattle.climb_plan.specs.Changing.{leaves_seen};
@@ -25,7 +25,7 @@ ghost use Rattle.engine.specs.SoundTree.{IsSoundInMemory};
 
 use crate::execute_one::execute_one;
 use crate::leaves::{take_replies, undo_leaves, work_leaves};
-use crate::reads::{do_all_look, read_leaves, replies_of};
+use crate::reads::{are_all_read_only, read_leaves, replies_of};
 use climb_plan::laws::{
     the_log_states_stay_true, the_plan_holds_the_map_after_the_commands,
     the_plan_of_a_proper_store_is_proper,
@@ -80,7 +80,7 @@ pub(crate) fn execute(
     if is_costly(commands, &page_runs, tree.most_pages()) {
         return execute_by_map(rt, crew, gate, &work, tree);
     }
-    if do_all_look(commands) {
+    if are_all_read_only(commands) {
         return read_routed(rt, crew, gate, &work, tree, page_runs);
     }
     execute_routed(rt, crew, gate, &work, tree, page_runs)
@@ -314,7 +314,7 @@ fn read_routed(
     requires sound { IsSoundInMemory work.now.settings tree.old }
     requires short { AreShort work.now.settings work.now.commands.now }
     requires routed { AreRoutesFor (tree_of tree.old) work.now.commands.now page_runs.items }
-    requires looks { list_all is_look work.now.commands.now ≡ true }
+    requires looks { list_all is_read_only work.now.commands.now ≡ true }
     ensures replies { IfOk result (λ replies. replies.items
         ≡ replies_to (contents (tree_of tree.old)) work.now.commands.now) }
     ensures tree { OnOk result (tree_of tree.new

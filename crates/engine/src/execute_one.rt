@@ -180,21 +180,21 @@ fn bring_home(
     requires fan { 1 < work.now.settings.fan }
     requires answered { AreAnswers work.now.commands.now done.made.pieces }
     requires ready { (t : definitions.Tree) × (cs : List (Command Global)) ×
-        IsReady work.now.settings t cs tree.old (page_seen Leaf done.made.worked ∷ []) }
+        IsReady work.now.settings t cs tree.old (page_seen Leaf done.made.updated ∷ []) }
     requires away { place_of tree.old.table done.held.route.pid ≡ Some None }
-    requires same { done.made.worked.placed.pid ≡ done.held.route.pid }
+    requires same { done.made.updated.placed.pid ≡ done.held.route.pid }
     requires height { tree.old.height ≤ most_levels }
     ensures replies { IfOk result (λ replies. (place : ℕ) →
         slice_get replies.items place ≡ reply_at work.now.commands.now done.made.pieces place) }
     ensures planned { OnOk result ((t : definitions.Tree) (cs : List (Command Global)) →
-        IsReady work.now.settings t cs tree.old (page_seen Leaf done.made.worked ∷ []) →
+        IsReady work.now.settings t cs tree.old (page_seen Leaf done.made.updated ∷ []) →
         AreAllHome tree.new × (tree_of tree.new ≡ planned_tree work.now.settings t cs)) }
     ensures low { OnOk result (tree.new.height ≤ most_levels) }
     ensures back { OnErr result (tree.new ≡ record tree.old {
       table = with_place tree.old.table done.held.route.pid (Some done.held.page);
     }) }
     ensures fault { IfErr result (λ fault. (t : definitions.Tree) (cs : List (Command Global)) →
-        IsReady work.now.settings t cs tree.old (page_seen Leaf done.made.worked ∷ []) →
+        IsReady work.now.settings t cs tree.old (page_seen Leaf done.made.updated ∷ []) →
         IsLaterFault work.now.settings t cs fault) }
 {
     let Ok(replies) = take_reply(work, &mut done) else {
@@ -217,24 +217,24 @@ fn take_reply(work: &LeafWork<'_>, done: &mut LeafDone) -> Result<Vec<Reply<Glob
     ensures replies { IfOk result (λ replies. (place : ℕ) →
         slice_get replies.items place ≡ reply_at work.now.commands.now done.old.made.pieces place) }
     ensures held { done.new.held ≡ done.old.held }
-    ensures worked { done.new.made.worked ≡ done.old.made.worked }
+    ensures updated { done.new.made.updated ≡ done.old.made.updated }
 {
     replies_of(work.alloc, work.commands, done.take_pieces())
 }
 
 // Whether the leaf was not replaced, so that it asks nothing of its parent.
 fn is_quiet(done: &LeafDone) -> bool
-    ensures { result ≡ is_quiet done.now.made.worked }
+    ensures { result ≡ is_quiet done.now.made.updated }
 {
     !done.is_replaced() && !matches!(done.class(), Class::Thin | Class::Fat)
 }
 
 // Puts the leaf into its place after its run.
 fn put_home(tree: &mut Tree<Global>, done: LeafDone)
-    requires { place_of tree.old.table done.made.worked.placed.pid ≡ Some None }
+    requires { place_of tree.old.table done.made.updated.placed.pid ≡ Some None }
     ensures { tree.new ≡ record tree.old {
-      table = with_place tree.old.table done.made.worked.placed.pid
-          (Some (Leaf done.made.worked.placed.page));
+      table = with_place tree.old.table done.made.updated.placed.pid
+          (Some (Leaf done.made.updated.placed.page));
     } }
 {
     let pid = done.pid();
@@ -253,18 +253,18 @@ fn climb_from(
 ) -> Result<(), Fault>
     requires fan { 1 < work.now.settings.fan }
     requires ready { (t : definitions.Tree) × (cs : List (Command Global)) ×
-        IsReady work.now.settings t cs tree.old (page_seen Leaf done.made.worked ∷ []) }
+        IsReady work.now.settings t cs tree.old (page_seen Leaf done.made.updated ∷ []) }
     requires away { place_of tree.old.table done.held.route.pid ≡ Some None }
     requires height { tree.old.height ≤ most_levels }
     ensures planned { OnOk result ((t : definitions.Tree) (cs : List (Command Global)) →
-        IsReady work.now.settings t cs tree.old (page_seen Leaf done.made.worked ∷ []) →
+        IsReady work.now.settings t cs tree.old (page_seen Leaf done.made.updated ∷ []) →
         AreAllHome tree.new × (tree_of tree.new ≡ planned_tree work.now.settings t cs)) }
     ensures low { OnOk result (tree.new.height ≤ most_levels) }
     ensures back { OnErr result (tree.new ≡ record tree.old {
       table = with_place tree.old.table done.held.route.pid (Some done.held.page);
     }) }
     ensures fault { IfErr result (λ fault. (t : definitions.Tree) (cs : List (Command Global)) →
-        IsReady work.now.settings t cs tree.old (page_seen Leaf done.made.worked ∷ []) →
+        IsReady work.now.settings t cs tree.old (page_seen Leaf done.made.updated ∷ []) →
         IsLaterFault work.now.settings t cs fault) }
 {
     let Ok(mut leaves) = Vec::with_capacity(work.alloc, 1) else {

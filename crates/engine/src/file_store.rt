@@ -3,7 +3,7 @@ ghost use Rattle.std.specs.Prelude.{◌≡◌, ◌≢◌, ◌⊎◌, ◌<◌, No
 ghost use Rattle.keys.specs.Bytes.{Bytes};
 ghost use Rattle.keys.specs.Limits.{first_bad_field};
 ghost use Rattle.crew.specs.Crew.{is_crew};
-ghost use Rattle.flush_log.specs.Disk.{IsSettled, Kept};
+ghost use Rattle.flush_log.specs.Disk.{IsSynced, Kept};
 ghost use Rattle.recovery.specs.Recovered.{IsReadOf, IsLate};
 ghost use Rattle.engine.specs.FileStore.{IfStoreFound, IsFaultOfFile, IsFound, IsNewStore, IsStoreOfFile, disk_found, made_on_zeros};
 ghost use Rattle.engine.specs.Hidden.{is_unfinished};
@@ -117,7 +117,7 @@ fn new_store<D: DiskOfFile>(
     ensures made { IfOk result (IsNewStore settings) }
     ensures refused { IfErr result (λ fault. (file : Bytes) → IsFaultOfFile file fault) }
     ensures bytes { IsTrue (D.view disk).is_honest → IfOk result (λ store.
-        ((D.view store.disk).seen ≡ made_on_zeros settings) × IsSettled (D.view store.disk)) }
+        ((D.view store.disk).seen ≡ made_on_zeros settings) × IsSynced (D.view store.disk)) }
     ensures fine { IfOk result (λ store. store.has_failed ≡ false) }
 {
     let disk = disk.erased(disk_size(&settings))?;
@@ -175,8 +175,8 @@ fn find_store<D: Disk>(
     ensures read { (file : Bytes) × IsReadOf (D.view disk) file
         × IsFound D.failed file (D.failed disk) result }
     ensures kept { IfOk result (λ f. Kept (D.view disk) (D.view (disk_found f))) }
-    ensures settled { IsTrue (D.view disk).is_honest →
-        IfOk result (IfStoreFound (λ x. IsSettled (D.view x.disk))) }
+    ensures is_synced { IsTrue (D.view disk).is_honest →
+        IfOk result (IfStoreFound (λ x. IsSynced (D.view x.disk))) }
     ensures fine { IfOk result (IfStoreFound (λ x. x.has_failed ≡ false)) }
 {
     if disk.len() == 0 {
@@ -203,8 +203,8 @@ fn store_of<D: DiskOfFile>(
     // On an honest disk: no old byte is under a new store, and the disk is settled.
     ensures bytes { IsTrue (D.view disk).is_honest → IsTrue (is_unfinished (D.view disk).seen) →
         IfOk result (λ store. (D.view store.disk).seen ≡ made_on_zeros settings) }
-    ensures settled { IsTrue (D.view disk).is_honest →
-        IfOk result (λ store. IsSettled (D.view store.disk)) }
+    ensures is_synced { IsTrue (D.view disk).is_honest →
+        IfOk result (λ store. IsSynced (D.view store.disk)) }
     ensures fine { IfOk result (λ store. store.has_failed ≡ false) }
 {
     match find_store(rt, rt.alloc(), disk, crew) {

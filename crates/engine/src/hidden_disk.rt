@@ -2,7 +2,7 @@
 ghost use Rattle.std.specs.Prelude.{◌≡◌, ◌+◌, ◌≤◌, IsTrue, length, take, drop, OnOk, [], ◌∷◌, refl, IfOk, slice_index};
 ghost use Rattle.std.proofs.Common.{◌∙◌};
 ghost use Rattle.keys.specs.Bytes.{Bytes};
-ghost use Rattle.flush_log.specs.Disk.{IsSettled, Kept, Same, LeavesOnly, CountsFailure, OnlyRead};
+ghost use Rattle.flush_log.specs.Disk.{IsSynced, Kept, Same, LeavesOnly, CountsFailure, OnlyRead};
 ghost use Rattle.flush_log.specs.Overlay.{overlay};
 ghost use Rattle.engine.specs.Hidden.{exchanged, exchanged_byte, exchanged_view, store_byte, IsLeftHiding, IsCleared, IsLeftRevealing, revealed};
 
@@ -100,8 +100,8 @@ fn clear_first<D: Disk>(disk: &mut D, first: u8) -> Result<(), DiskFault>
     ensures failed { CountsFailure result (D.failed disk.old) (D.failed disk.new) }
     ensures cleared { IsTrue (D.view disk.old).is_honest → OnOk result (
         IsCleared (D.view disk.old).seen (D.view disk.new).seen) }
-    ensures settled { IsSettled (D.view disk.old) → OnOk result (IsSettled (D.view disk.new)) }
-    ensures crash { IsSettled (D.view disk.old) →
+    ensures is_synced { IsSynced (D.view disk.old) → OnOk result (IsSynced (D.view disk.new)) }
+    ensures crash { IsSynced (D.view disk.old) →
         LeavesOnly (D.view disk.old) (D.view disk.new) (IsLeftHiding (D.view disk.old).seen) }
 {
     if first == 0 {
@@ -124,9 +124,9 @@ pub(crate) fn write_hidden<D: Disk>(disk: &mut D, bytes: &[u8]) -> Result<(), Di
     ensures failed { CountsFailure result (D.failed disk.old) (D.failed disk.new) }
     ensures written { IsTrue (D.view disk.old).is_honest → OnOk result
         (exchanged (D.view disk.new).seen ≡ overlay (D.view disk.old).seen 0 bytes.now) }
-    ensures settled { IsTrue (D.view disk.old).is_honest →
-        OnOk result (IsSettled (D.view disk.new)) }
-    ensures crash { IsSettled (D.view disk.old) →
+    ensures is_synced { IsTrue (D.view disk.old).is_honest →
+        OnOk result (IsSynced (D.view disk.new)) }
+    ensures crash { IsSynced (D.view disk.old) →
         LeavesOnly (D.view disk.old) (D.view disk.new) (IsLeftHiding (D.view disk.old).seen) }
 {
     let first = first_byte(disk)?;
@@ -141,9 +141,9 @@ pub(crate) fn reveal<D: Disk>(disk: &mut D) -> Result<(), DiskFault>
     ensures failed { CountsFailure result (D.failed disk.old) (D.failed disk.new) }
     ensures written { IsTrue (D.view disk.old).is_honest →
         OnOk result ((D.view disk.new).seen ≡ revealed (D.view disk.old).seen) }
-    ensures settled { IsTrue (D.view disk.old).is_honest →
-        OnOk result (IsSettled (D.view disk.new)) }
-    ensures crash { IsSettled (D.view disk.old) →
+    ensures is_synced { IsTrue (D.view disk.old).is_honest →
+        OnOk result (IsSynced (D.view disk.new)) }
+    ensures crash { IsSynced (D.view disk.old) →
         LeavesOnly (D.view disk.old) (D.view disk.new) (IsLeftRevealing (D.view disk.old).seen) }
 {
     write_through(disk, 0, &[STORE_BYTE])

@@ -21,7 +21,7 @@ ghost use Rattle.recovery.specs.InStep.{IsStore, IsStoreOf};
 ghost use Rattle.recovery.specs.StoreOfDisk.{store_of_disk};
 ghost use Rattle.engine.specs.Batch.{refusal_by};
 ghost use Rattle.engine.specs.Batches.{replies_in_turn, map_in_turn, tree_in_turn};
-ghost use Rattle.engine.specs.Steps.{Step, HaveWords, KeepsStores, ArePlayed, batching, plays};
+ghost use Rattle.engine.specs.Steps.{Step, AllNumbersFit, KeepsStores, ArePlayed, batching, plays};
 
 use crate::step_laws::steps_are_played_one_by_one;
 use climb_plan::laws::{
@@ -94,7 +94,7 @@ pub fn a_batch_stays_in_step<A: Allocator>()
 pub fn steps_answer_as_a_map_and_are_read_back<A: Allocator>()
     ensures { (s : Settings) (st on_disk : Store) (file : Bytes) (steps : List (Step A)) →
         IsStoreOf s st file → store_of_disk file ≡ Ok (s, on_disk) →
-        HaveWords (batching s) s st file steps →
+        AllNumbersFit (batching s) s st file steps →
         ArePlayed (batching s) s st.tree on_disk.tree steps (plays (batching s) s st file steps) }
 {
     a_batch_stays_in_step::<A>();

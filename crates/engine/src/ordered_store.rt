@@ -13,7 +13,7 @@ ghost use Rattle.keys.specs.declared.command.Command as commanded;
 ghost use Rattle.keys.specs.declared.fault.Fault.TheVariants.{NoMemory, Device, Failed};
 ghost use Rattle.keys.specs.declared.settings.Settings as given;
 ghost use Rattle.crew.specs.Crew.{is_crew};
-ghost use Rattle.flush_log.specs.Disk.{HasFailed, IsSettled, Kept, Leaves, LeavesOnly, Same};
+ghost use Rattle.flush_log.specs.Disk.{HasFailed, IsSynced, Kept, Leaves, LeavesOnly, Same};
 ghost use Rattle.engine.specs.Claim.{Held, FailsByDevice, IsLeftByCreate, RecoversEither, disk_in};
 
 mod by_pages;
@@ -81,8 +81,8 @@ pub trait OrderedStore<D: Disk> {
             × (has_failed x ≡ false)) }
         ensures durable { IsTrue (D.view disk).is_honest → IfOk result (λ x.
             (recovered (D.view (disk_of x)).seen ≡ Some (chosen, []))
-            × IsSettled (D.view (disk_of x))) }
-        ensures crash { IsSettled (D.view disk) →
+            × IsSynced (D.view (disk_of x))) }
+        ensures crash { IsSynced (D.view disk) →
             LeavesOnly (D.view disk) (D.view (disk_in disk_of result))
             (IsLeftByCreate recovered (D.view disk).seen (chosen, [])) }
         ensures state { IsTrue (D.view disk).is_honest → IfOk result (λ x.
@@ -103,7 +103,7 @@ pub trait OrderedStore<D: Disk> {
         requires { IsSync R.row }
         ensures opened { IsTrue (D.view disk).is_honest → IfOk result (λ x.
             (recovered (D.view disk).seen ≡ Some (settings x, contents x))
-            × IsSettled (D.view (disk_of x))) }
+            × IsSynced (D.view (disk_of x))) }
         ensures fine { IfOk result (λ x. (has_failed x ≡ false) × IsRising (contents x)) }
         ensures state { IsTrue (D.view disk).is_honest →
             IfOk result (λ x. after_open (D.view disk).seen ≡ Some (state x)) }
@@ -162,10 +162,10 @@ pub trait OrderedStore<D: Disk> {
         ensures durable { IsTrue (D.view (disk_of self.old)).is_honest →
             OnOk result (recovered (D.view (disk_of self.new)).seen
             ≡ Some (settings self.old, contents self.old)) }
-        ensures settled { IsSettled (D.view (disk_of self.old)) →
-            OnOk result (IsSettled (D.view (disk_of self.new))) }
+        ensures is_synced { IsSynced (D.view (disk_of self.old)) →
+            OnOk result (IsSynced (D.view (disk_of self.new))) }
         // A crash at any moment leaves what was durable, or the contents.
-        ensures crash { has_failed self.old ≡ false → IsSettled (D.view (disk_of self.old)) →
+        ensures crash { has_failed self.old ≡ false → IsSynced (D.view (disk_of self.old)) →
             LeavesOnly (D.view (disk_of self.old)) (D.view (disk_of self.new))
             (RecoversEither recovered (recovered (D.view (disk_of self.old)).seen)
             (Some (settings self.old, contents self.old))) }
@@ -191,9 +191,9 @@ pub trait OrderedStore<D: Disk> {
             IsTrue (D.view (disk_of self.old)).is_honest →
             OnOk result (recovered (D.view (disk_of self.new)).seen
             ≡ recovered (D.view (disk_of self.old)).seen) }
-        ensures settled { IsTrue (D.view (disk_of self.old)).is_honest →
-            OnOk result (IsSettled (D.view (disk_of self.new))) }
-        ensures crash { has_failed self.old ≡ false → IsSettled (D.view (disk_of self.old)) →
+        ensures is_synced { IsTrue (D.view (disk_of self.old)).is_honest →
+            OnOk result (IsSynced (D.view (disk_of self.new))) }
+        ensures crash { has_failed self.old ≡ false → IsSynced (D.view (disk_of self.old)) →
             LeavesOnly (D.view (disk_of self.old)) (D.view (disk_of self.new))
             (λ c. recovered c ≡ recovered (D.view (disk_of self.old)).seen) }
         ensures state { IsTrue (D.view (disk_of self.old)).is_honest → OnOk result (
@@ -217,9 +217,9 @@ pub trait OrderedStore<D: Disk> {
         ensures durable { IsTrue (D.view (disk_of self.old)).is_honest →
             OnOk result (recovered (D.view (disk_of self.new)).seen
             ≡ Some (settings self.old, contents self.old)) }
-        ensures settled { IsTrue (D.view (disk_of self.old)).is_honest →
-            OnOk result (IsSettled (D.view (disk_of self.new))) }
-        ensures crash { has_failed self.old ≡ false → IsSettled (D.view (disk_of self.old)) →
+        ensures is_synced { IsTrue (D.view (disk_of self.old)).is_honest →
+            OnOk result (IsSynced (D.view (disk_of self.new))) }
+        ensures crash { has_failed self.old ≡ false → IsSynced (D.view (disk_of self.old)) →
             LeavesOnly (D.view (disk_of self.old)) (D.view (disk_of self.new))
             (RecoversEither recovered (recovered (D.view (disk_of self.old)).seen)
             (Some (settings self.old, contents self.old))) }

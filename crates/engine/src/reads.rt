@@ -2,7 +2,7 @@
 ghost use Rattle.std.specs.Prelude.{◌≡◌, ℕ, map, slice_get, IfOk};
 ghost use Rattle.std.specs.List.{AllByRecursion, list_all};
 ghost use Rattle.keys.specs.Lists.{flat};
-ghost use Rattle.page_runs.specs.Reads.{IsRouteToRead, is_look, route_answers};
+ghost use Rattle.page_runs.specs.Reads.{IsRouteToRead, is_read_only, route_answers};
 ghost use Rattle.replies.specs.ByPlace.{AreAnswers, reply_at};
 ghost use Rattle.engine.specs.Leaves.{read_answers};
 
@@ -16,15 +16,15 @@ use std::alloc::{AllocError, Global};
 use std::thread::Threads;
 
 /// Whether all commands only look: gets and scans.
-pub(crate) fn do_all_look(commands: &[Command<Global>]) -> bool
-    ensures { result ≡ list_all is_look commands.now }
+pub(crate) fn are_all_read_only(commands: &[Command<Global>]) -> bool
+    ensures { result ≡ list_all is_read_only commands.now }
 {
-    commands.iter().all(|command| is_look(command))
+    commands.iter().all(|command| is_read_only(command))
 }
 
 // Whether the command only looks.
-fn is_look(command: &Command<Global>) -> bool
-    ensures { result ≡ is_look command.now }
+fn is_read_only(command: &Command<Global>) -> bool
+    ensures { result ≡ is_read_only command.now }
 {
     match command {
         Command::Get(_) => true,

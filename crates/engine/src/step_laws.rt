@@ -7,7 +7,7 @@ ghost use Rattle.mapping.specs.Tree.{Store};
 ghost use Rattle.flush_log.specs.Commit.{LeftDuring};
 ghost use Rattle.recovery.specs.InStep.{IsStoreOf};
 ghost use Rattle.recovery.specs.StoreOfDisk.{store_of_disk};
-ghost use Rattle.engine.specs.Steps.{Step, Answer, Batching, HasWords, HaveWords, KeepsStores, ArePlayed, LeftInPlay, StandsAfterSome, after_step, plays, plays_further, step_calls};
+ghost use Rattle.engine.specs.Steps.{Step, Answer, Batching, NumbersFit, AllNumbersFit, KeepsStores, ArePlayed, LeftInPlay, StandsAfterSome, after_step, plays, plays_further, step_calls};
 
 use std::alloc::Allocator;
 
@@ -18,7 +18,7 @@ pub fn steps_are_played_one_by_one<A: Allocator>()
     ensures { (b : Batching A) (s : Settings) (steps : List (Step A))
         (st on_disk : Store) (file : Bytes) →
         KeepsStores s b → store_of_disk file ≡ Ok (s, on_disk) → IsStoreOf s st file →
-        HaveWords b s st file steps →
+        AllNumbersFit b s st file steps →
         ArePlayed b s st.tree on_disk.tree steps (plays b s st file steps) }
 {}
 
@@ -30,10 +30,10 @@ pub fn steps_that_are_joined_are_played_in_turn<A: Allocator>()
         plays b s st file (xs ++ ys) ≡ plays_further b s (plays b s st file xs) ys }
     ensures words { (b : Batching A) (s : Settings) (st : Store)
         (file : Bytes) (xs ys : List (Step A)) →
-        HaveWords b s st file xs →
+        AllNumbersFit b s st file xs →
         ((plays b s st file xs).fault ≡ None →
-        HaveWords b s (plays b s st file xs).store (plays b s st file xs).bytes ys) →
-        HaveWords b s st file (xs ++ ys) }
+        AllNumbersFit b s (plays b s st file xs).store (plays b s st file xs).bytes ys) →
+        AllNumbersFit b s st file (xs ++ ys) }
 {}
 
 /// A crash at any moment of a play leaves a disk that stands for the store after some of its steps: no more of them than are
@@ -42,17 +42,17 @@ pub fn steps_that_are_joined_are_played_in_turn<A: Allocator>()
 pub fn a_crash_in_a_play_leaves_the_store_after_some_steps<A: Allocator>()
     ensures play { (b : Batching A) (s : Settings) (st : Store)
         (file c : Bytes) (steps : List (Step A)) →
-        KeepsStores s b → IsStoreOf s st file → HaveWords b s st file steps →
+        KeepsStores s b → IsStoreOf s st file → AllNumbersFit b s st file steps →
         LeftInPlay b s st file steps c → StandsAfterSome b s st file steps c }
     ensures step { (b : Batching A) (s : Settings) (st now : Store) (file bytes c : Bytes)
         (x : Step A) (a : Answer A) →
         KeepsStores s b →
-        IsStoreOf s st file → HasWords b s st x → after_step b s st file x ≡ Ok (a, (now, bytes)) →
+        IsStoreOf s st file → NumbersFit b s st x → after_step b s st file x ≡ Ok (a, (now, bytes)) →
         LeftDuring (step_calls s st file x) file c →
         (store_of_disk c ≡ store_of_disk file) ⊎ (c ≡ bytes) }
     ensures kept { (b : Batching A) (s : Settings) (st now : Store) (file bytes : Bytes)
         (x : Step A) (a : Answer A) →
-        KeepsStores s b → IsStoreOf s st file → HasWords b s st x →
+        KeepsStores s b → IsStoreOf s st file → NumbersFit b s st x →
         after_step b s st file x ≡ Ok (a, (now, bytes)) → IsStoreOf s now bytes }
     ensures later { (b : Batching A) (s : Settings) (st : Store)
         (file c : Bytes) (xs ys : List (Step A)) →

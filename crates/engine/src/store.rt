@@ -4,13 +4,13 @@ ghost use Rattle.keys.specs.Step.{replies_to, map_after_all};
 ghost use Rattle.keys.specs.declared.fault.Fault.TheVariants.{NoMemory, Device, Failed};
 ghost use Rattle.mapping.specs.Levels.{contents};
 ghost use Rattle.climb_plan.specs.Plan.{plan};
-ghost use Rattle.flush_log.specs.Disk.{IsSettled, Kept, LeavesOnly};
+ghost use Rattle.flush_log.specs.Disk.{IsSynced, Kept, LeavesOnly};
 ghost use Rattle.recovery.specs.StoreOfDisk.{first_store};
 ghost use Rattle.engine.specs.Batch.{IsLaterFault, refusal_by};
 ghost use Rattle.engine.specs.Late.{IsLate, create_refusal, after_create, IsLeftCreating};
 ghost use Rattle.engine.specs.Refusal.{refusal, is_crew};
 ghost use Rattle.engine.specs.State.{IsSound};
-ghost use Rattle.engine.specs.Steps.{HasWords, batching};
+ghost use Rattle.engine.specs.Steps.{NumbersFit, batching};
 ghost use Rattle.engine.specs.Steps.Step.{Batch};
 ghost use Rattle.verify.specs.Report.{report};
 
@@ -96,9 +96,9 @@ impl<D: Disk> Store<D> {
         ensures bytes { IsTrue (D.view disk).is_honest →
             IfOk result (λ made.
             (after_create settings (D.view disk).seen ≡ Ok (made.store, (D.view made.disk).seen))
-            × IsSettled (D.view made.disk)) }
+            × IsSynced (D.view made.disk)) }
         // On an honest disk that is settled a crash at any moment leaves the bytes as they were, no store, or the new one.
-        ensures crash { IsSettled (D.view disk) → MatchResult result
+        ensures crash { IsSynced (D.view disk) → MatchResult result
             (λ made. LeavesOnly (D.view disk) (D.view made.disk)
             (IsLeftCreating settings (D.view disk).seen))
             (λ e. LeavesOnly (D.view disk) (D.view e.1)
@@ -164,7 +164,7 @@ impl<D: Disk> Store<D> {
         // One that is done is refused by nothing, and its root's page id has 64 bits.
         ensures allowed { OnOk result
             ((refusal_by self.old.settings self.old.store.tree commands.now ≡ None)
-            × HasWords (batching self.old.settings) self.old.settings self.old.store
+            × NumbersFit (batching self.old.settings) self.old.settings self.old.store
             (Batch commands.now)) }
 
         // The store was sound, and is so again.

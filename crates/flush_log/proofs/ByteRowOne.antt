@@ -7,8 +7,8 @@ use Rattle.frame_codec.proofs.RowForms.{hex}
 use Rattle.flush_log.specs.Overlay.{overlay}
 use Rattle.flush_log.specs.SettingsBlock.{settings_block, read_settings, store_settings}
 
-spelled : settings_block S ≡ hex "4257424154434831 0004 0002 0010 0010 00000100 00000004" ++ replicate 40 0
-spelled = refl
+encoded : settings_block S ≡ hex "4257424154434831 0004 0002 0010 0010 00000100 00000004" ++ replicate 40 0
+encoded = refl
 
 read_back : read_settings (settings_block S) ≡ Some S
 read_back = refl

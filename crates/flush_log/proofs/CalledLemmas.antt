@@ -121,7 +121,7 @@ module _ (file : List ℕ) (calls : List Call) (fit : AreCalls (length file) cal
           (λ may. leave-append calls (Sync ∷ []) file (λ d. d ≡ file) c may) now
 
   -- a sync that succeeds settles
-  pub view-settled : Only (seen_after (calls ++ Sync ∷ []) file) (LeftNow file (calls ++ Sync ∷ []))
-  view-settled c now = ⊎_elim
+  pub view-is_synced : Only (seen_after (calls ++ Sync ∷ []) file) (LeftNow file (calls ++ Sync ∷ []))
+  view-is_synced c now = ⊎_elim
       (λ is. is)
       (λ may. leave-append calls (Sync ∷ []) file (λ d. d ≡ file) c may ∙ sym (seen_after-append calls (Sync ∷ []) file)) now

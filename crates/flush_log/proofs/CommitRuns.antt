@@ -6,7 +6,7 @@ use Rattle.frame_codec.specs.Frame.{Frame, bytes_of}
 use Rattle.flush_log.specs.Overlay.{overlay, IsBeside, AgreeAt}
 use Rattle.flush_log.specs.Images.{AreOfText}
 use Rattle.flush_log.specs.Layout.{Span, spans, with_spans}
-use Rattle.flush_log.specs.Disk.{View, Lawful, IsSettled, Leaves, LeavesOnly}
+use Rattle.flush_log.specs.Disk.{View, Lawful, IsSynced, Leaves, LeavesOnly}
 use Rattle.flush_log.specs.Slot.{Slot, slot_place, slot_bytes, is_open}
 use Rattle.flush_log.specs.Commit.{seen_after, AreWithin, close_gate, IsClosing, committed, LeavesGateClosed, IsBesideSpans, IsBesideSlot, IsUncommitted}
 use Rattle.flush_log.proofs.OverlayLemmas.{overlay-beside, overlay-at, overlay-is, agree_same, agree_then, agree_less}
@@ -43,13 +43,13 @@ some_text (image ∷ images) size some either = ⊎_elim (λ none. absurd (cc)) 
 
 -- ---- the first half: the gate is closed, the spans are written, and both are synced
 
-module _ (s : Settings) (n : ℕ) (b : Bool) (spans : List Span) (old : View) (settled : IsSettled old) (long : 512 ≤ length old.seen) (fit : AreWithin s (length old.seen) spans) (was : b ≡ is_open n old.seen) where
+module _ (s : Settings) (n : ℕ) (b : Bool) (spans : List Span) (old : View) (is_synced : IsSynced old) (long : 512 ≤ length old.seen) (fit : AreWithin s (length old.seen) spans) (was : b ≡ is_open n old.seen) where
   abbrev Before : List ℕ → Type 0
   Before = IsUncommitted s n spans old.seen
 
   from_closing : (d c e : List ℕ) → old.may_leave d → IsClosing b (slot_place n) d c → AgreeAt (IsBesideSpans s spans) c e → Before e
   from_closing d c e might closing same =
-      before_from s old.seen spans (numbered n) long fit b (sym was) c e (subst (λ (f : List ℕ). IsClosing b (slot_place n) f c) (settled.only d might) closing) same
+      before_from s old.seen spans (numbered n) long fit b (sym was) c e (subst (λ (f : List ℕ). IsClosing b (slot_place n) f c) (is_synced.only d might) closing) same
 
   pub closing_leaves : (v : View) → Leaves old v (IsClosing b (slot_place n)) → LeavesOnly old v Before
   closing_leaves v closed =

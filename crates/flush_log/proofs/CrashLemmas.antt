@@ -8,7 +8,7 @@ use Rattle.flush_log.specs.Disk.{Torn}
 use Rattle.flush_log.specs.Commit.{Call, seen_after, MayLeave}
 use Rattle.flush_log.specs.Commit.Call.{Write, Sync}
 use Rattle.flush_log.specs.Record.{LeftNow, end_of_call, AreCalls, call_of, calls_of}
-use Rattle.flush_log.specs.Crash.{torn_by, left_with, all_torn, IsSettledAt}
+use Rattle.flush_log.specs.Crash.{torn_by, left_with, all_torn, IsSyncedAt}
 use Rattle.flush_log.specs.declared.crash_disk.Fill.{Fill}
 use Rattle.flush_log.specs.declared.crash_disk.Fill.TheVariants.{Before, Written, Byte}
 use Rattle.flush_log.specs.declared.mem_disk.RecordedCall.{RecordedCall}
@@ -110,8 +110,8 @@ over-all n bytes all =
     let long : length {A = ℕ} (replicate n 0) ≡ n = length-replicate n 0 in
     ap (λ (rest : List ℕ). bytes ++ rest) (drop_all (0 + length bytes) (replicate n 0) (omega (arith, long, all))) ∙ append-nil bytes
 
-pub settled-holding : (n since : ℕ) (bytes : List ℕ) (calls : List Call) → length bytes ≡ n → calls ≡ Write 0 bytes ∷ Sync ∷ [] → since ≡ length calls → IsSettledAt (replicate n 0) calls since bytes
-settled-holding n since bytes calls all is upto = record {
+pub is_synced-holding : (n since : ℕ) (bytes : List ℕ) (calls : List Call) → length bytes ≡ n → calls ≡ Write 0 bytes ∷ Sync ∷ [] → since ≡ length calls → IsSyncedAt (replicate n 0) calls since bytes
+is_synced-holding n since bytes calls all is upto = record {
   within = omega (arith, upto);
   long = let long : length {A = ℕ} (replicate n 0) ≡ n = length-replicate n 0 in all ∙ sym long;
   left = λ fill.
@@ -120,9 +120,9 @@ settled-holding n since bytes calls all is upto = record {
       ∙ sym (ap (λ (xs : List Call). all_torn fill xs bytes) (drop_all since calls (omega (arith, upto))));
 }
 
-module _ {A : Type 0} (cs held : List (RecordedCall A)) (is : held ≡ cs) (n since : ℕ) (settled : List ℕ) where
+module _ {A : Type 0} (cs held : List (RecordedCall A)) (is : held ≡ cs) (n since : ℕ) (is_synced : List ℕ) where
   -- the writes since the last sync lie within them
-  pub tear-fits : (bytes : List ℕ) → bytes ≡ settled → AreCalls n (calls_of cs) → length settled ≡ length {A = ℕ} (replicate n 0) → AreCalls (length bytes) (calls_of (take (length held - since) (drop since held)))
+  pub tear-fits : (bytes : List ℕ) → bytes ≡ is_synced → AreCalls n (calls_of cs) → length is_synced ≡ length {A = ℕ} (replicate n 0) → AreCalls (length bytes) (calls_of (take (length held - since) (drop since held)))
   tear-fits bytes copied fit long =
       let zeros : length {A = ℕ} (replicate n 0) ≡ n = length-replicate n 0 in
       subst (λ (xs : List Call). AreCalls (length bytes) xs) (sym (calls_after cs held since is))
@@ -133,7 +133,7 @@ module _ {A : Type 0} (cs held : List (RecordedCall A)) (is : held ≡ cs) (n si
   since-within within = let long = length-map cs call_of in let same = ap (λ xs. length xs) is in omega (arith, within, long, same)
 
   -- the outcome is these bytes with these writes torn
-  pub tear-left : (fill : Fill) (bytes now : List ℕ) → bytes ≡ settled → IsSettledAt (replicate n 0) (calls_of cs) since settled
+  pub tear-left : (fill : Fill) (bytes now : List ℕ) → bytes ≡ is_synced → IsSyncedAt (replicate n 0) (calls_of cs) since is_synced
       → now ≡ all_torn fill (calls_of (take (length held - since) (drop since held))) bytes → now ≡ left_with fill (calls_of cs) (replicate n 0) (replicate n 0)
   tear-left fill bytes now copied at torn =
       torn
@@ -142,24 +142,24 @@ module _ {A : Type 0} (cs held : List (RecordedCall A)) (is : held ≡ cs) (n si
       ∙ sym (at.left fill)
 
 -- one call more
-module _ (file : List ℕ) (calls more : List Call) (since : ℕ) (settled : List ℕ) (was : IsSettledAt file calls since settled) where
+module _ (file : List ℕ) (calls more : List Call) (since : ℕ) (is_synced : List ℕ) (was : IsSyncedAt file calls since is_synced) where
   following : (x : Call) → more ≡ calls ++ x ∷ [] → drop since more ≡ drop since calls ++ x ∷ []
   following x is = ap (λ (xs : List Call). drop since xs) is ∙ drop-append-le since calls (x ∷ []) was.within
 
-  pub settled-write : (at : ℕ) (bytes : List ℕ) → more ≡ calls ++ Write at bytes ∷ [] → IsSettledAt file more since settled
-  settled-write at bytes is = record {
+  pub is_synced-write : (at : ℕ) (bytes : List ℕ) → more ≡ calls ++ Write at bytes ∷ [] → IsSyncedAt file more since is_synced
+  is_synced-write at bytes is = record {
     within = let long = ap length is ∙ length-append calls (Write at bytes ∷ []) in omega (arith, long, was.within);
     long = was.long;
     left = λ fill.
         ap (λ (xs : List Call). left_with fill xs file file) is
         ∙ left-append fill calls (Write at bytes ∷ []) file file
         ∙ ap (λ (f : List ℕ). torn_by fill at bytes f) (was.left fill)
-        ∙ sym (torn-append fill (drop since calls) (Write at bytes ∷ []) settled)
-        ∙ ap (λ (xs : List Call). all_torn fill xs settled) (sym (following (Write at bytes) is));
+        ∙ sym (torn-append fill (drop since calls) (Write at bytes ∷ []) is_synced)
+        ∙ ap (λ (xs : List Call). all_torn fill xs is_synced) (sym (following (Write at bytes) is));
   }
 
-  pub settled-sync : (upto : ℕ) (now : List ℕ) → more ≡ calls ++ Sync ∷ [] → upto ≡ length more → now ≡ all_torn Written (drop since more) settled → length now ≡ length settled → IsSettledAt file more upto now
-  settled-sync upto now is all torn long = record {
+  pub is_synced-sync : (upto : ℕ) (now : List ℕ) → more ≡ calls ++ Sync ∷ [] → upto ≡ length more → now ≡ all_torn Written (drop since more) is_synced → length now ≡ length is_synced → IsSyncedAt file more upto now
+  is_synced-sync upto now is all torn long = record {
     within = omega (arith, all);
     long = long ∙ was.long;
     left = λ fill.
@@ -167,8 +167,8 @@ module _ (file : List ℕ) (calls more : List Call) (since : ℕ) (settled : Lis
         ∙ left-append fill calls (Sync ∷ []) file file
         ∙ sym (left-written calls file)
         ∙ was.left Written
-        ∙ sym (torn-append Written (drop since calls) (Sync ∷ []) settled)
-        ∙ ap (λ (xs : List Call). all_torn Written xs settled) (sym (following Sync is))
+        ∙ sym (torn-append Written (drop since calls) (Sync ∷ []) is_synced)
+        ∙ ap (λ (xs : List Call). all_torn Written xs is_synced) (sym (following Sync is))
         ∙ sym torn
         ∙ sym (ap (λ (xs : List Call). all_torn fill xs now) (drop_all upto more (omega (arith, all))));
   }
@@ -178,28 +178,28 @@ pub since-following : (calls more : List Call) (x : Call) (since : ℕ) → more
 since-following calls more x since is within = let long = ap length is ∙ length-append calls (x ∷ []) in omega (arith, within, long)
 
 -- a sync of a disk of n zeros: m is the disk's length after it, and its record is borrowed twice
-pub settled-tear : {A : Type 0} (cs held counted : List (RecordedCall A)) (n m : ℕ) (calls : List Call) (since : ℕ) (settled now : List ℕ) → held ≡ cs → counted ≡ cs → m ≡ n
-    → calls_of cs ≡ calls ++ Sync ∷ [] → IsSettledAt (replicate n 0) calls since settled
-    → now ≡ all_torn Written (calls_of (take (length held - since) (drop since held))) settled → length now ≡ length settled → IsSettledAt (replicate m 0) (calls_of cs) (length counted) now
-settled-tear cs held counted n m calls since settled now is again same more was torn long =
-    subst (λ (k : ℕ). IsSettledAt (replicate k 0) (calls_of cs) (length counted) now) (sym same)
-    (settled-sync (replicate n 0) calls (calls_of cs) since settled was (length counted) now more
-    (ap (λ xs. length xs) again ∙ sym (length-map cs call_of)) (torn ∙ ap (λ (xs : List Call). all_torn Written xs settled) (calls_after cs held since is)) long)
+pub is_synced-tear : {A : Type 0} (cs held counted : List (RecordedCall A)) (n m : ℕ) (calls : List Call) (since : ℕ) (is_synced now : List ℕ) → held ≡ cs → counted ≡ cs → m ≡ n
+    → calls_of cs ≡ calls ++ Sync ∷ [] → IsSyncedAt (replicate n 0) calls since is_synced
+    → now ≡ all_torn Written (calls_of (take (length held - since) (drop since held))) is_synced → length now ≡ length is_synced → IsSyncedAt (replicate m 0) (calls_of cs) (length counted) now
+is_synced-tear cs held counted n m calls since is_synced now is again same more was torn long =
+    subst (λ (k : ℕ). IsSyncedAt (replicate k 0) (calls_of cs) (length counted) now) (sym same)
+    (is_synced-sync (replicate n 0) calls (calls_of cs) since is_synced was (length counted) now more
+    (ap (λ xs. length xs) again ∙ sym (length-map cs call_of)) (torn ∙ ap (λ (xs : List Call). all_torn Written xs is_synced) (calls_after cs held since is)) long)
 
 -- a write to a disk of n zeros, which succeeds or fails; m is the disk's length after it
-pub settled-either : {T E : Type 0} (result : Result T E) (n m : ℕ) (calls more : List Call) (since : ℕ) (settled : List ℕ) (at : ℕ) (bytes : List ℕ) → m ≡ n
-    → OnOk result (more ≡ calls ++ Write at bytes ∷ []) → OnErr result (more ≡ calls) → IsSettledAt (replicate n 0) calls since settled → IsSettledAt (replicate m 0) more since settled
-settled-either result n m calls more since settled at bytes same done refused was =
-    subst (λ (k : ℕ). IsSettledAt (replicate k 0) more since settled) (sym same)
-    (either_way (more ≡ calls ++ Write at bytes ∷ []) (more ≡ calls) (IsSettledAt (replicate n 0) more since settled) result done refused
-    (λ is. settled-write (replicate n 0) calls more since settled was at bytes is)
-    (λ is. subst (λ (xs : List Call). IsSettledAt (replicate n 0) xs since settled) (sym is) was))
+pub is_synced-either : {T E : Type 0} (result : Result T E) (n m : ℕ) (calls more : List Call) (since : ℕ) (is_synced : List ℕ) (at : ℕ) (bytes : List ℕ) → m ≡ n
+    → OnOk result (more ≡ calls ++ Write at bytes ∷ []) → OnErr result (more ≡ calls) → IsSyncedAt (replicate n 0) calls since is_synced → IsSyncedAt (replicate m 0) more since is_synced
+is_synced-either result n m calls more since is_synced at bytes same done refused was =
+    subst (λ (k : ℕ). IsSyncedAt (replicate k 0) more since is_synced) (sym same)
+    (either_way (more ≡ calls ++ Write at bytes ∷ []) (more ≡ calls) (IsSyncedAt (replicate n 0) more since is_synced) result done refused
+    (λ is. is_synced-write (replicate n 0) calls more since is_synced was at bytes is)
+    (λ is. subst (λ (xs : List Call). IsSyncedAt (replicate n 0) xs since is_synced) (sym is) was))
 
 -- a call of a disk of n zeros that was not recorded; m is the disk's length after it
-pub settled-still : (n m : ℕ) (calls more : List Call) (since : ℕ) (settled : List ℕ) → m ≡ n → more ≡ calls → IsSettledAt (replicate n 0) calls since settled → IsSettledAt (replicate m 0) more since settled
-settled-still n m calls more since settled same is was =
-    subst (λ (k : ℕ). IsSettledAt (replicate k 0) more since settled) (sym same)
-    (subst (λ (xs : List Call). IsSettledAt (replicate n 0) xs since settled) (sym is) was)
+pub is_synced-still : (n m : ℕ) (calls more : List Call) (since : ℕ) (is_synced : List ℕ) → m ≡ n → more ≡ calls → IsSyncedAt (replicate n 0) calls since is_synced → IsSyncedAt (replicate m 0) more since is_synced
+is_synced-still n m calls more since is_synced same is was =
+    subst (λ (k : ℕ). IsSyncedAt (replicate k 0) more since is_synced) (sym same)
+    (subst (λ (xs : List Call). IsSyncedAt (replicate n 0) xs since is_synced) (sym is) was)
 
 -- all that is kept of a disk, m of k bytes before and now, is still all of it
 pub whole-still : (before now k m : ℕ) → m ≡ k → before ≡ k → before ≤ now → now ≤ m → now ≡ m

@@ -28,11 +28,11 @@ use Rattle.mapping.proofs.TableLemmas.{same_pid}
 use Rattle.keys.proofs.Basics.{equal_by}
 use Rattle.keys.specs.declared.version.Version.{Version}
 use Rattle.frame_codec.specs.Frame.{Content}
-use Rattle.flush_log.specs.FlushText.{spelling_of, lacking, frames_of, pid_text, pids_to_write, text_of, flush_text}
+use Rattle.flush_log.specs.FlushText.{encoding_of, lacking, frames_of, pid_frames, pids_to_write, commit_frames, flush_frames}
 use Rattle.flush_log.specs.ImageWork.{job_held, held_text, HasFewRuns, IsOfStore}
 use Rattle.flush_log.specs.declared.image_work.ImageJob.{ImageJob}
-use Rattle.flush_log.specs.declared.text.Text.{Text}
-use Rattle.flush_log.specs.declared.text.Text.TheVariants.{Flush}
+use Rattle.flush_log.specs.declared.text.CommitKind.{CommitKind}
+use Rattle.flush_log.specs.declared.text.CommitKind.TheVariants.{Flush}
 use Rattle.flush_log.proofs.TextImages.{depth_at, can_be_written}
 
 no_parts : {X : Type 0} (xs ys : List X) → xs ++ ys ≡ [] → (xs ≡ []) × (ys ≡ [])
@@ -146,12 +146,12 @@ module _ (ns sorted once : List ℕ) (same_ones : IsPermutation ns sorted) (orde
 frames_none : (pid : ℕ) (cs : List Content) → cs ≡ [] → frames_of pid cs ≡ []
 frames_none pid cs e = ap (frames_of pid) e
 
-none_here : (version : Version) (place : Option (Option PageOfKind)) (l : Logged) → HasFewRuns (at_home place) → l ≡ log_then place → lacking (spelling_of version) (at_home place) l ≡ []
-none_here version None l few e = ap (lacking (spelling_of version) None) e
-none_here version (Some None) l few e = ap (lacking (spelling_of version) None) e
+none_here : (version : Version) (place : Option (Option PageOfKind)) (l : Logged) → HasFewRuns (at_home place) → l ≡ log_then place → lacking (encoding_of version) (at_home place) l ≡ []
+none_here version None l few e = ap (lacking (encoding_of version) None) e
+none_here version (Some None) l few e = ap (lacking (encoding_of version) None) e
 none_here version (Some (Some p)) l few e =
-    ap (lacking (spelling_of version) (Some p)) e
-    ∙ (depth_at (spelling_of version) p (depth_counted p) (depth_counted p) few refl).0 (le-leb (depth_counted p) (depth_counted p) (omega arith))
+    ap (lacking (encoding_of version) (Some p)) e
+    ∙ (depth_at (encoding_of version) p (depth_counted p) (depth_counted p) few refl).0 (le-leb (depth_counted p) (depth_counted p) (omega arith))
 
 abbrev keys_of_old : Bool → ℕ → List ℕ → List ℕ
 keys_of_old c m olds = cond c (m ∷ olds) olds
@@ -176,7 +176,7 @@ among_olds (l ∷ ls) n h =
     ∙ old_by (is_eq (nat_cmp n l.0)) (is_old l.1) n l.0 l.1 (lookup (is_same_pid n) ls) (keys_of (filter (λ l. is_old l.1) ls)) refl refl h (among_olds ls n)
 
 -- nothing is written for a pid without a page, unless the log has `Old` of it
-not_there : (version : Version) (page : Option PageOfKind) (l : Logged) → is_some page ≡ false → (l ≡ Old → ⊥) → lacking (spelling_of version) page l ≡ []
+not_there : (version : Version) (page : Option PageOfKind) (l : Logged) → is_some page ≡ false → (l ≡ Old → ⊥) → lacking (encoding_of version) page l ≡ []
 not_there version (Some p) l h old = absurd (false≢true (sym h))
 not_there version None No h old = refl
 not_there version None Old h old = absurd (old refl)
@@ -184,20 +184,20 @@ not_there version None (Upto k) h old = refl
 
 module _ (version : Version) (t : TreeInMemory) (home : AreAllHome t) (proper : IsOfStore (tree_of t)) where
   -- nothing is written for a pid whose log state is already the one after the flush
-  none_due : (pid : ℕ) → IsInLog t.table pid → pid_text (Flush version) (tree_of t) pid ≡ []
+  none_due : (pid : ℕ) → IsInLog t.table pid → pid_frames (Flush version) (tree_of t) pid ≡ []
   none_due pid h =
       let page : at_home (place_of t.table pid) ≡ page_at (tree_of t).pages pid = page-home t.table.places pid home in
       let few : HasFewRuns (at_home (place_of t.table pid)) = subst HasFewRuns (sym page) (can_be_written (Flush version) (tree_of t) pid proper).few in
-      frames_none pid (lacking (spelling_of version) (page_at (tree_of t).pages pid) (logged_of (tree_of t) pid))
-      (ap (λ (o : Option PageOfKind). lacking (spelling_of version) o (logged_of (tree_of t) pid)) (sym page) ∙ none_here version (place_of t.table pid) (log_of t.table pid) few h)
+      frames_none pid (lacking (encoding_of version) (page_at (tree_of t).pages pid) (logged_of (tree_of t) pid))
+      (ap (λ (o : Option PageOfKind). lacking (encoding_of version) o (logged_of (tree_of t) pid)) (sym page) ∙ none_here version (place_of t.table pid) (log_of t.table pid) few h)
 
   -- and nothing of a pid that a flush doesn't examine
-  none_unknown : (pid : ℕ) → is_among pid (pids_to_write (tree_of t)) ≡ false → pid_text (Flush version) (tree_of t) pid ≡ []
+  none_unknown : (pid : ℕ) → is_among pid (pids_to_write (tree_of t)) ≡ false → pid_frames (Flush version) (tree_of t) pid ≡ []
   none_unknown pid h =
       let olds : List ℕ = keys_of (filter (λ l. is_old l.1) (tree_of t).logged) in
       let pids : List ℕ = keys_of (tree_of t).pages in
       let both = or_parts (is_among pid olds) (is_among pid pids) (sym (among-with_numbers pid olds pids) ∙ h) in
-      frames_none pid (lacking (spelling_of version) (page_at (tree_of t).pages pid) (logged_of (tree_of t) pid))
+      frames_none pid (lacking (encoding_of version) (page_at (tree_of t).pages pid) (logged_of (tree_of t) pid))
       (not_there version (page_at (tree_of t).pages pid) (logged_of (tree_of t) pid) (among-lookup pid (tree_of t).pages ∙ both.1)
       (λ old. false≢true (sym both.0 ∙ among_olds (tree_of t).logged pid old)))
 
@@ -206,39 +206,39 @@ module _ (version : Version) (t : TreeInMemory) (home : AreAllHome t) (proper : 
 
   -- so the frames of a flush are those of rising pids that include all due ones
   pub text-due : (due pids : List ℕ) → AreDue t.table due → AreRisingPids pids → ((n : ℕ) → is_among n due ≡ true → is_among n pids ≡ true)
-      → flat_map (pid_text (Flush version) (tree_of t)) pids ≡ flush_text version (tree_of t)
+      → flat_map (pid_frames (Flush version) (tree_of t)) pids ≡ flush_frames version (tree_of t)
   text-due due pids h r all =
-      same (pid_text (Flush version) (tree_of t)) pids (pids_to_write (tree_of t)) r rising_to_write
-      (each (pid_text (Flush version) (tree_of t)) pids (pids_to_write (tree_of t)) none_unknown)
-      (each (pid_text (Flush version) (tree_of t)) (pids_to_write (tree_of t)) pids (λ n e. none_due n (h n (not_among (is_among n due) n refl e))))
+      same (pid_frames (Flush version) (tree_of t)) pids (pids_to_write (tree_of t)) r rising_to_write
+      (each (pid_frames (Flush version) (tree_of t)) pids (pids_to_write (tree_of t)) none_unknown)
+      (each (pid_frames (Flush version) (tree_of t)) (pids_to_write (tree_of t)) pids (λ n e. none_due n (h n (not_among (is_among n due) n refl e))))
     where
       not_among : (b : Bool) (n : ℕ) → is_among n due ≡ b → is_among n pids ≡ false → is_among n due ≡ false
       not_among true n e f = absurd (false≢true (sym f ∙ all n e))
       not_among false n e f = e
 
   -- it is empty exactly if nothing is written of those that are due
-  pub none-due : (due : List ℕ) → AreDue t.table due → (flat_map (pid_text (Flush version) (tree_of t)) due ≡ []) ↔ (flush_text version (tree_of t) ≡ [])
+  pub none-due : (due : List ℕ) → AreDue t.table due → (flat_map (pid_frames (Flush version) (tree_of t)) due ≡ []) ↔ (flush_frames version (tree_of t) ≡ [])
   none-due due h = (
-    λ e. none_of_all (pid_text (Flush version) (tree_of t)) (pids_to_write (tree_of t)) (λ n. nothing n (is_among n due) refl e),
-    λ e. none_of_all (pid_text (Flush version) (tree_of t)) due (λ n. unseen n (is_among n (pids_to_write (tree_of t))) refl e),
+    λ e. none_of_all (pid_frames (Flush version) (tree_of t)) (pids_to_write (tree_of t)) (λ n. nothing n (is_among n due) refl e),
+    λ e. none_of_all (pid_frames (Flush version) (tree_of t)) due (λ n. unseen n (is_among n (pids_to_write (tree_of t))) refl e),
   )
     where
-      nothing : (n : ℕ) (b : Bool) → is_among n due ≡ b → flat_map (pid_text (Flush version) (tree_of t)) due ≡ [] → pid_text (Flush version) (tree_of t) n ≡ []
-      nothing n true e none = none_of_one (pid_text (Flush version) (tree_of t)) due n e none
+      nothing : (n : ℕ) (b : Bool) → is_among n due ≡ b → flat_map (pid_frames (Flush version) (tree_of t)) due ≡ [] → pid_frames (Flush version) (tree_of t) n ≡ []
+      nothing n true e none = none_of_one (pid_frames (Flush version) (tree_of t)) due n e none
       nothing n false e none = none_due n (h n e)
 
-      unseen : (n : ℕ) (b : Bool) → is_among n (pids_to_write (tree_of t)) ≡ b → flush_text version (tree_of t) ≡ [] → pid_text (Flush version) (tree_of t) n ≡ []
-      unseen n true e none = none_of_one (pid_text (Flush version) (tree_of t)) (pids_to_write (tree_of t)) n e none
+      unseen : (n : ℕ) (b : Bool) → is_among n (pids_to_write (tree_of t)) ≡ b → flush_frames version (tree_of t) ≡ [] → pid_frames (Flush version) (tree_of t) n ≡ []
+      unseen n true e none = none_of_one (pid_frames (Flush version) (tree_of t)) (pids_to_write (tree_of t)) n e none
       unseen n false e none = none_unknown n e
 
 -- the jobs of such pids are those for the frames of the flush
-pub jobs-due : {V E : Type 0} (items : V → List ImageJob) (r : Result V E) (text : Text) (version : Version) → text ≡ Flush version → (t : TreeInMemory) → AreAllHome t → IsOfStore (tree_of t)
+pub jobs-due : {V E : Type 0} (items : V → List ImageJob) (r : Result V E) (text : CommitKind) (version : Version) → text ≡ Flush version → (t : TreeInMemory) → AreAllHome t → IsOfStore (tree_of t)
     → (due pids : List ℕ) → AreDue t.table due → AreRisingPids pids → ((n : ℕ) → is_among n due ≡ true → is_among n pids ≡ true)
-    → IfOk r (λ jobs. flat_map held_text (map job_held (items jobs)) ≡ flat_map (pid_text text (tree_of t)) pids)
-    → IfOk r (λ jobs. flat_map held_text (map job_held (items jobs)) ≡ text_of text (tree_of t))
+    → IfOk r (λ jobs. flat_map held_text (map job_held (items jobs)) ≡ flat_map (pid_frames text (tree_of t)) pids)
+    → IfOk r (λ jobs. flat_map held_text (map job_held (items jobs)) ≡ commit_frames text (tree_of t))
 jobs-due items (Err x) text version is t home proper due pids h rises all made = tt
 jobs-due items (Ok jobs) text version is t home proper due pids h rises all made =
     made
-    ∙ ap (λ (x : Text). flat_map (pid_text x (tree_of t)) pids) is
+    ∙ ap (λ (x : CommitKind). flat_map (pid_frames x (tree_of t)) pids) is
     ∙ text-due version t home proper due pids h rises all
-    ∙ ap (λ (x : Text). text_of x (tree_of t)) (sym is)
+    ∙ ap (λ (x : CommitKind). commit_frames x (tree_of t)) (sym is)

@@ -11,7 +11,7 @@ use Rattle.keys.specs.declared.settings.Settings.{Settings}
 use Rattle.keys.proofs.LimitLemmas.{checked}
 use Rattle.index_page.specs.Rules.{is_short_value, of_cell}
 use Rattle.frame_codec.specs.declared.format.Format.{Format}
-use Rattle.frame_codec.specs.declared.format.Spelling.TheVariants.{Whole}
+use Rattle.frame_codec.specs.declared.format.KeyEncoding.TheVariants.{Whole}
 use Rattle.frame_codec.specs.Frame.{Content, Frame, bytes_of, is_pid, is_key, are_entries, is_content, is_readable, is_allowed, is_frame}
 use Rattle.frame_codec.specs.Frame.Content.{FullLeaf, DeltaLeaf, FullIndex, DeltaIndex, Free}
 use Rattle.frame_codec.specs.Sizes.{where_present, size_of}
@@ -66,24 +66,24 @@ module _ (s : Settings) where
   flagged_pid (Some p) = le-max_right (length_size + s.max_value) pid_size
 
   content_bound : (c : Content) → is_content s c ≡ true → size_of c ≤ full_header_size + s.max_key + s.fan * longest_change s
-  content_bound (FullLeaf spelling low base) h =
+  content_bound (FullLeaf encoding low base) h =
       let (key, entries) = and_parts _ _ h in
       let low_short = leb-true (length low) s.max_key key in
       let sum = entries_bound s (is_short_value s) (λ e. pair_header_size + length e.0 + length e.1) (longest_change s) (λ e k v. let short = short_value e.1 v in omega arith) base entries in
       let whole : size_of (FullLeaf Whole low base) ≤ full_header_size + s.max_key + s.fan * longest_change s = omega arith in
-      let shorter = leaf-shorter spelling low base in
+      let shorter = leaf-shorter encoding low base in
       omega (arith, whole, shorter)
   content_bound (DeltaLeaf run) h =
       let (some, changes) = and_parts (nat_lt 0 (length run)) (are_entries s (of_cell (is_short_value s)) run) h in
       let sum = entries_bound s (of_cell (is_short_value s)) (λ e. change_header_size + length e.0 + where_present (λ v. length_size + length v) e.1) (longest_change s) (λ e k v. let short = flagged_value e.1 v in omega arith) run changes in
       omega arith
-  content_bound (FullIndex spelling low base) h =
+  content_bound (FullIndex encoding low base) h =
       let (key, entries) = and_parts _ _ h in
       let low_short = leb-true (length low) s.max_key key in
       let most = le-max_right (length_size + s.max_value) pid_size in
       let sum = entries_bound s is_pid (λ e. child_header_size + length e.0) (longest_change s) (λ e k v. omega arith) base entries in
       let whole : size_of (FullIndex Whole low base) ≤ full_header_size + s.max_key + s.fan * longest_change s = omega arith in
-      let shorter = index-shorter spelling low base in
+      let shorter = index-shorter encoding low base in
       omega (arith, whole, shorter)
   content_bound (DeltaIndex run) h =
       let (some, changes) = and_parts (nat_lt 0 (length run)) (are_entries s (of_cell is_pid) run) h in

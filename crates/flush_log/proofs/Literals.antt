@@ -4,7 +4,7 @@ use Prim.Native.String.{String}
 use Rattle.index_page.specs.Page.{PageOfKind}
 use Rattle.index_page.specs.Page.PageOfKind.{Leaf, Index}
 use Rattle.mapping.specs.Tree.{Logged, Tree}
-use Rattle.frame_codec.specs.declared.format.Spelling.TheVariants.{Whole, Shared}
+use Rattle.frame_codec.specs.declared.format.KeyEncoding.TheVariants.{Whole, PrefixCompressed}
 use Rattle.frame_codec.specs.Frame.{Content, Frame}
 use Rattle.frame_codec.specs.Frame.Content.{FullLeaf, DeltaLeaf, FullIndex}
 
@@ -53,7 +53,7 @@ text_of_row_4 = frame 0 (FullLeaf Whole [] base_0) ∷ frame 1 (FullLeaf Whole (
 
 -- the same with keys that share beginnings
 abbrev pub shared_text_of_row_4 : List Frame
-shared_text_of_row_4 = frame 0 (FullLeaf Shared [] base_0) ∷ frame 1 (FullLeaf Shared (codes "c") base_1) ∷ frame 2 (FullIndex Shared [] base_2) ∷ []
+shared_text_of_row_4 = frame 0 (FullLeaf PrefixCompressed [] base_0) ∷ frame 1 (FullLeaf PrefixCompressed (codes "c") base_1) ∷ frame 2 (FullIndex PrefixCompressed [] base_2) ∷ []
 
 -- ---- row 5: keys by their letters, each with the value 1
 

@@ -37,7 +37,7 @@ module _ (s : Settings) (t : Slot) (text : List Frame) (good : first_bad_field s
       let is : IsAdmitted next full tail = admitted-is next full tail admits in
       let free = room-for-flush s t.head (tail_after s t.tail text) is.room in
       record {
-        spelled = are;
+        encoded = are;
         from = refl;
         slot = ap (λ (n : ℕ). (let u : Slot = record { sequence = n; head = t.head; tail = tail; root = t.root; height = t.height; version = t.version } in u)) (omega arith)
             ∙ ap (λ (n : ℕ). (let u : Slot = record { sequence = suc t.sequence; head = t.head; tail = n; root = t.root; height = t.height; version = t.version } in u)) is.tail;
@@ -58,7 +58,7 @@ module _ (s : Settings) (t : Slot) (text : List Frame) (good : first_bad_field s
 
 module _ (s : Settings) (t : Slot) (text : List Frame) (p : CommitPlan) (is : IsPlanned s t text p) where
   pub planned-fits : first_bad_field s ≡ None → FitSegments s (frames_in p.images)
-  planned-fits good = text-fits (format_of s t) good p.images text is.spelled.of is.spelled.within
+  planned-fits good = text-fits (format_of s t) good p.images text is.encoded.of is.encoded.within
 
 -- ---- after a reading of the gate
 

@@ -4,13 +4,13 @@ use Rattle.std.proofs.Math.Seq.{drop-append-add, take-append-add}
 use Rattle.std.proofs.lemmas.Bool.{cases_lt}
 use Rattle.std.proofs.lemmas.List.{length-replicate, length-drop, replicate-append-replicate, append_assoc, append-nil, take-append-le, drop-append-le, drop_all, drop-replicate, take-replicate}
 use Rattle.flush_log.specs.Overlay.{overlay}
-use Rattle.flush_log.specs.Disk.{IsSettled, Torn, Same, Leaves}
+use Rattle.flush_log.specs.Disk.{IsSynced, Torn, Same, Leaves}
 use Rattle.flush_log.specs.Commit.{Call, seen_after}
 use Rattle.flush_log.specs.Commit.Call.{Write, Sync}
 use Rattle.flush_log.specs.Record.{view_of, AreCalls, with_zeros}
 use Rattle.flush_log.proofs.OverlayLemmas.{length-overlay, overlay-beside}
 use Rattle.flush_log.proofs.CallLemmas.{seen_after-append}
-use Rattle.flush_log.proofs.CalledLemmas.{one_in_range, view-write, view-sync, view-settled}
+use Rattle.flush_log.proofs.CalledLemmas.{one_in_range, view-write, view-sync, view-is_synced}
 
 in_zeros : (n : ℕ) (calls : List Call) → AreCalls n calls → AreCalls (length {A = ℕ} (replicate n 0)) calls
 in_zeros n calls fit = let long : length {A = ℕ} (replicate n 0) ≡ n = length-replicate n 0 in subst (λ (m : ℕ). AreCalls m calls) (sym long) fit
@@ -159,11 +159,11 @@ module _ (n m : ℕ) (calls more : List Call) (same : m ≡ n) where
         (subst (λ (xs : List Call). Leaves (view_of (replicate n 0) calls) (view_of (replicate n 0) xs) (λ before c. c ≡ before)) (sym is)
         (view-sync (replicate n 0) calls (in_zeros n calls fit)))
 
-    pub sync_settles : AreCalls n calls → IsSettled (view_of (replicate m 0) more)
+    pub sync_settles : AreCalls n calls → IsSynced (view_of (replicate m 0) more)
     sync_settles fit =
-        subst (λ (k : ℕ). IsSettled (view_of (replicate k 0) more)) (sym same)
-        (subst (λ (xs : List Call). IsSettled (view_of (replicate n 0) xs)) (sym is)
-        (record { honest = refl; only = view-settled (replicate n 0) calls (in_zeros n calls fit) }))
+        subst (λ (k : ℕ). IsSynced (view_of (replicate k 0) more)) (sym same)
+        (subst (λ (xs : List Call). IsSynced (view_of (replicate n 0) xs)) (sym is)
+        (record { honest = refl; only = view-is_synced (replicate n 0) calls (in_zeros n calls fit) }))
 
   -- a call that didn't happen
   module _ (is : more ≡ calls) where

@@ -29,19 +29,19 @@ module _ (s : Settings) where
   after_segments = replicate 40 0
 
   abbrev after_seg_size : List ℕ
-  after_seg_size = (number 4).spell s.segments ++ after_segments
+  after_seg_size = (number 4).encode s.segments ++ after_segments
 
   abbrev after_max_value : List ℕ
-  after_max_value = (number 4).spell s.seg_size ++ after_seg_size
+  after_max_value = (number 4).encode s.seg_size ++ after_seg_size
 
   abbrev after_max_key : List ℕ
-  after_max_key = (number 2).spell s.max_value ++ after_max_value
+  after_max_key = (number 2).encode s.max_value ++ after_max_value
 
   abbrev after_chain : List ℕ
-  after_chain = (number 2).spell s.max_key ++ after_max_key
+  after_chain = (number 2).encode s.max_key ++ after_max_key
 
   abbrev after_fan : List ℕ
-  after_fan = (number 2).spell s.chain ++ after_chain
+  after_fan = (number 2).encode s.chain ++ after_chain
 
   block_in : AreChecked s → settings_in (settings_block s) ≡ s
   block_in c =

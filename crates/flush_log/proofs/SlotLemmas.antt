@@ -102,19 +102,19 @@ module _ (s : Settings) (n : ℕ) (t : Slot) (some : 0 < s.seg_size) where
   after_version = replicate 16 0
 
   abbrev after_height : List ℕ
-  after_height = (number 4).spell (version_number t.version) ++ after_version
+  after_height = (number 4).encode (version_number t.version) ++ after_version
 
   abbrev after_root : List ℕ
-  after_root = (number 4).spell t.height ++ after_height
+  after_root = (number 4).encode t.height ++ after_height
 
   abbrev after_tail : List ℕ
-  after_tail = (number 8).spell t.root ++ after_root
+  after_tail = (number 8).encode t.root ++ after_root
 
   abbrev after_head : List ℕ
-  after_head = (number 8).spell t.tail ++ after_tail
+  after_head = (number 8).encode t.tail ++ after_tail
 
   abbrev after_sequence : List ℕ
-  after_sequence = (number 8).spell t.head ++ after_head
+  after_sequence = (number 8).encode t.head ++ after_head
 
   pub slot_stands : IsSlot s n t → slot_in (slot_bytes t) ≡ t
   slot_stands f =

@@ -3,7 +3,7 @@ use Rattle.std.proofs.Common.{◌≡◌, ◌⊎◌, inl, inr, ⊎_elim, ℕ, zer
 use Rattle.std.proofs.lemmas.Bool.{cases_Bool}
 use Rattle.keys.specs.declared.settings.Settings.{Settings}
 use Rattle.flush_log.specs.Overlay.{overlay, IsBeside, AgreeAt}
-use Rattle.flush_log.specs.Disk.{View, Lawful, IsSettled, Torn, Leaves, LeavesOnly}
+use Rattle.flush_log.specs.Disk.{View, Lawful, IsSynced, Torn, Leaves, LeavesOnly}
 use Rattle.flush_log.specs.Slot.{Slot, slot_place, slot_body, slot_bytes, is_open}
 use Rattle.flush_log.specs.Layout.{Span}
 use Rattle.flush_log.specs.Commit.{AreWithin, LeavesGateClosed}
@@ -90,17 +90,17 @@ module _ (t : Slot) (gate : ℕ) (bytes : List ℕ) (at : gate ≡ slot_place t.
       ∙ opened t file long
 
   -- on a settled disk
-  module _ (old : View) (settled : IsSettled old) (long : 512 ≤ length old.seen) (shut : is_open t.sequence old.seen ≡ false) where
+  module _ (old : View) (is_synced : IsSynced old) (long : 512 ≤ length old.seen) (shut : is_open t.sequence old.seen ≡ false) where
     abbrev Left : List ℕ → Type 0
     Left c = LeavesGateClosed t.sequence old.seen c ⊎ (c ≡ overlay old.seen (slot_place t.sequence) (slot_bytes t))
 
     pub body_leaves : (mid : View) → Leaves old mid (Torn (gate + 1) (length (take 63 (drop 1 bytes)))) → LeavesOnly old mid Left
     body_leaves mid wrote =
         leaves_only old mid (Torn (slot_place t.sequence + 1) 63) Left
-        (λ d c might torn. inl (body_torn t old.seen long shut c (subst (λ (f : List ℕ). Torn (slot_place t.sequence + 1) 63 f c) (settled.only d might) torn)))
+        (λ d c might torn. inl (body_torn t old.seen long shut c (subst (λ (f : List ℕ). Torn (slot_place t.sequence + 1) 63 f c) (is_synced.only d might) torn)))
         (subst (λ (n : ℕ). Leaves old mid (Torn (n + 1) 63)) at (subst (λ (bs : List ℕ). Leaves old mid (Torn (gate + 1) (length (take 63 (drop 1 bs))))) is wrote))
 
-    pub slot_leaves : (mid new : View) → IsSettled mid → mid.seen ≡ overlay old.seen (gate + 1) (take 63 (drop 1 bytes)) → Leaves old mid (Torn (gate + 1) (length (take 63 (drop 1 bytes)))) → Leaves mid new (Torn gate (length (take 1 bytes))) → LeavesOnly old new Left
+    pub slot_leaves : (mid new : View) → IsSynced mid → mid.seen ≡ overlay old.seen (gate + 1) (take 63 (drop 1 bytes)) → Leaves old mid (Torn (gate + 1) (length (take 63 (drop 1 bytes)))) → Leaves mid new (Torn gate (length (take 1 bytes))) → LeavesOnly old new Left
     slot_leaves mid new settled_mid wrote first second =
         only_then old mid new Left (body_leaves mid first)
         (leaves_only mid new (Torn (slot_place t.sequence) 1) Left

@@ -33,14 +33,14 @@ module _ (g : Format) where
   record AreSpelled (is_end : List ℕ → Bool) (bs : List ℕ) (fs : List Frame) : Type 0 where
     following : List ℕ
     within : AllByRecursion (λ f. is_frame g f ≡ true) fs
-    spelled : bs ≡ flat_map bytes_of fs ++ following
+    encoded : bs ≡ flat_map bytes_of fs ++ following
     end : is_end following ≡ true
 
   record AreBroken (is_end : List ℕ → Bool) (bs : List ℕ) (left : ℕ) : Type 0 where
     before : List Frame
     following : List ℕ
     within : AllByRecursion (λ f. is_frame g f ≡ true) before
-    spelled : bs ≡ flat_map bytes_of before ++ following
+    encoded : bs ≡ flat_map bytes_of before ++ following
     long : left ≡ length following
     no_end : is_end following ≡ false
     no_frame : read_frame g following ≡ None
@@ -51,7 +51,7 @@ module _ (g : Format) where
 
   module _ (is_end : List ℕ → Bool) (none : is_end [] ≡ true) where
     stand-end : (bs : List ℕ) → is_end bs ≡ true → AreSpelled is_end bs []
-    stand-end bs h = record { following = bs; within = tt; spelled = refl; end = h }
+    stand-end bs h = record { following = bs; within = tt; encoded = refl; end = h }
 
     stand-more : (bs : List ℕ) (f : Frame) (rest : List ℕ) (r : Result (List Frame) ℕ) → AreBytes bs → read_frame g bs ≡ Some (f, rest) → Stand is_end rest r → Stand is_end bs (with_first f r)
     stand-more bs f rest (Ok fs) bytes read later =
@@ -59,7 +59,7 @@ module _ (g : Format) where
         record {
           following = later.following;
           within = (stands.within, later.within);
-          spelled = stands.bytes ∙ ap (λ (cs : List ℕ). bytes_of f ++ cs) later.spelled ∙ sym (append_assoc (bytes_of f) (flat_map bytes_of fs) later.following);
+          encoded = stands.bytes ∙ ap (λ (cs : List ℕ). bytes_of f ++ cs) later.encoded ∙ sym (append_assoc (bytes_of f) (flat_map bytes_of fs) later.following);
           end = later.end;
         }
     stand-more bs f rest (Err left) bytes read later =
@@ -68,7 +68,7 @@ module _ (g : Format) where
           before = f ∷ later.before;
           following = later.following;
           within = (stands.within, later.within);
-          spelled = stands.bytes ∙ ap (λ (cs : List ℕ). bytes_of f ++ cs) later.spelled ∙ sym (append_assoc (bytes_of f) (flat_map bytes_of later.before) later.following);
+          encoded = stands.bytes ∙ ap (λ (cs : List ℕ). bytes_of f ++ cs) later.encoded ∙ sym (append_assoc (bytes_of f) (flat_map bytes_of later.before) later.following);
           long = later.long;
           no_end = later.no_end;
           no_frame = later.no_frame;
@@ -78,7 +78,7 @@ module _ (g : Format) where
         → ((rest : List ℕ) → AreBytes rest → length rest ≤ most → Stand is_end rest (read_frames g is_end most rest))
         → Stand is_end bs (read_then (length bs) o (λ following. read_frames g is_end most following))
     stand-read most bs None read end bytes long further =
-        record { before = []; following = bs; within = tt; spelled = refl; long = refl; no_end = end; no_frame = read }
+        record { before = []; following = bs; within = tt; encoded = refl; long = refl; no_end = end; no_frame = read }
     stand-read most bs (Some p) read end bytes long further =
         let stands = frame-stands g bs p.0 p.1 bytes read in
         let joined = length-append (bytes_of p.0) p.1 in
@@ -114,7 +114,7 @@ module _ (g : Format) where
         → in_segment n (length bytes) r ≡ Err (BadFrame m offset) → (m ≡ n) × IsBrokenAt g is_end n offset bytes
     broken-of n bytes m offset (Ok fs) stand headed h = absurd (cc)
     broken-of n bytes m offset (Err left) stand headed h =
-        let whole : bytes ≡ segment_header n ++ (flat_map bytes_of stand.before ++ stand.following) = headed ∙ ap (λ (cs : List ℕ). segment_header n ++ cs) stand.spelled in
+        let whole : bytes ≡ segment_header n ++ (flat_map bytes_of stand.before ++ stand.following) = headed ∙ ap (λ (cs : List ℕ). segment_header n ++ cs) stand.encoded in
         let long : length bytes ≡ length (segment_header n ++ (flat_map bytes_of stand.before ++ stand.following)) = ap (λ (cs : List ℕ). length cs) whole in
         let joined = length-append (flat_map bytes_of stand.before) stand.following in
         let rest = stand.long in
@@ -124,7 +124,7 @@ module _ (g : Format) where
             before = stand.before;
             following = stand.following;
             within = stand.within;
-            spelled = whole;
+            encoded = whole;
             place = omega (arith, at, long, joined, rest);
             no_end = stand.no_end;
             no_frame = stand.no_frame;
@@ -175,7 +175,7 @@ module _ (g : Format) where
       let pad = padding-zeros stand.following stand.end in (
         f.frames,
         length stand.following,
-        record { within = stand.within; spelled = f.headed ∙ ap (λ (cs : List ℕ). segment_header n ++ cs) (stand.spelled ∙ ap (λ (cs : List ℕ). flat_map bytes_of f.frames ++ cs) pad) },
+        record { within = stand.within; encoded = f.headed ∙ ap (λ (cs : List ℕ). segment_header n ++ cs) (stand.encoded ∙ ap (λ (cs : List ℕ). flat_map bytes_of f.frames ++ cs) pad) },
         f.all,
       )
 
@@ -186,7 +186,7 @@ module _ (g : Format) where
       let stand = f.stand in
       let none = tail-empty stand.following stand.end in (
         f.frames,
-        record { within = stand.within; spelled = f.headed ∙ ap (λ (cs : List ℕ). segment_header n ++ cs) (stand.spelled ∙ ap (λ (cs : List ℕ). flat_map bytes_of f.frames ++ cs) none) },
+        record { within = stand.within; encoded = f.headed ∙ ap (λ (cs : List ℕ). segment_header n ++ cs) (stand.encoded ∙ ap (λ (cs : List ℕ). flat_map bytes_of f.frames ++ cs) none) },
         f.all,
       )
 
@@ -202,7 +202,7 @@ module _ (g : Format) where
     pub frames-read : (is_end : List ℕ → Bool) → ((b : ℕ) (bs : List ℕ) → is_end (suc b ∷ bs) ≡ false) → (fs : List Frame) (zeros : ℕ) (bytes : List ℕ) → is_end (replicate zeros 0) ≡ true
         → AreFrames g n fs zeros bytes → read_segment g is_end n bytes ≡ Ok (all_in n fs)
     frames-read is_end marks fs zeros bytes end h =
-        ap (λ (bs : List ℕ). read_segment g is_end n bs) (h.spelled ∙ sym (append_assoc (segment_header n) (flat_map bytes_of fs) (replicate zeros 0)))
+        ap (λ (bs : List ℕ). read_segment g is_end n bs) (h.encoded ∙ sym (append_assoc (segment_header n) (flat_map bytes_of fs) (replicate zeros 0)))
         ∙ holds-read g is_end marks n (segment_header n ++ flat_map bytes_of fs) (replicate zeros 0) fs (frames-hold (segment_header n) [] fs h.within (header-holds g n)) end
 
 -- ---- the first fault

@@ -19,10 +19,10 @@ use Rattle.mapping.specs.Tree.{Logged, Tree, page_at, listed_at, or_no, logged_o
 use Rattle.mapping.specs.Tree.Logged.{No, Old, Upto}
 use Rattle.mapping.proofs.PidLemmas.{all_among, among_either_by, among-with_number, or_true_right}
 use Rattle.mapping.proofs.TableLemmas.{holds_where_found}
-use Rattle.frame_codec.specs.declared.format.Spelling.TheVariants.{Shared}
+use Rattle.frame_codec.specs.declared.format.KeyEncoding.TheVariants.{PrefixCompressed}
 use Rattle.frame_codec.specs.Frame.{Frame}
-use Rattle.flush_log.specs.FlushText.{lacking, frames_of, pid_text, pids_to_write, flush_text, upgrade_text, all_outdated, outdated}
-use Rattle.flush_log.specs.declared.text.Text.TheVariants.{Flush, Upgrade}
+use Rattle.flush_log.specs.FlushText.{lacking, frames_of, pid_frames, pids_to_write, flush_frames, upgrade_frames, all_outdated, outdated}
+use Rattle.flush_log.specs.declared.text.CommitKind.TheVariants.{Flush, Upgrade}
 
 -- ---- the log state of a pid
 
@@ -68,13 +68,13 @@ module _ (ps : List (ℕ × PageOfKind)) where
 -- ---- the frames
 
 module _ (t : Tree) where
-  same-text : (pids : List ℕ) → flat_map (pid_text Upgrade t) pids ≡ flat_map (pid_text (Flush Two) (outdated t)) pids
+  same-text : (pids : List ℕ) → flat_map (pid_frames Upgrade t) pids ≡ flat_map (pid_frames (Flush Two) (outdated t)) pids
   same-text [] = refl
   same-text (pid ∷ pids) =
-      ap₂ (λ (l : Logged) (fs : List Frame). frames_of pid (lacking Shared (page_at t.pages pid) l) ++ fs) (sym (listed-outdated t.logged pid)) (same-text pids)
+      ap₂ (λ (l : Logged) (fs : List Frame). frames_of pid (lacking PrefixCompressed (page_at t.pages pid) l) ++ fs) (sym (listed-outdated t.logged pid)) (same-text pids)
 
-  pub upgrade-flush : AreLogsTrue t → upgrade_text t ≡ flush_text Two (outdated t)
-  upgrade-flush true_logs = same-text (pids_to_write t) ∙ ap (λ (ns : List ℕ). flat_map (pid_text (Flush Two) (outdated t)) ns) (sym (same-pids t.pages t.logged true_logs.each))
+  pub upgrade-flush : AreLogsTrue t → upgrade_frames t ≡ flush_frames Two (outdated t)
+  upgrade-flush true_logs = same-text (pids_to_write t) ∙ ap (λ (ns : List ℕ). flat_map (pid_frames (Flush Two) (outdated t)) ns) (sym (same-pids t.pages t.logged true_logs.each))
 
 -- ---- it is never empty
 
@@ -90,22 +90,22 @@ each_empty f n (m ∷ ms) among e =
     ⊎_elim (λ same. subst (λ (k : ℕ). f k ≡ []) (sym (eqb-true n m same)) first) (λ later. each_empty f n ms later rest) (among_either_by (nat_eq n m) (is_among n ms) among)
 
 -- a whole page is at least its base
-page_written : (pid : ℕ) (p : PageOfKind) (l : Logged) → frames_of pid (lacking Shared (Some p) (outdate l)) ≢ []
+page_written : (pid : ℕ) (p : PageOfKind) (l : Logged) → frames_of pid (lacking PrefixCompressed (Some p) (outdate l)) ≢ []
 page_written pid p No e = absurd (cc)
 page_written pid p Old e = absurd (cc)
 page_written pid p (Upto k) e = absurd (cc)
 
 -- a tree with a page has one to write
-written : (t : Tree) (pid : ℕ) (p : PageOfKind) → page_at t.pages pid ≡ Some p → upgrade_text t ≢ []
+written : (t : Tree) (pid : ℕ) (p : PageOfKind) → page_at t.pages pid ≡ Some p → upgrade_frames t ≢ []
 written t pid p here none =
     let used = holds_where_found (λ m. is_among m (keys_of t.pages) ≡ true) t.pages pid p (all_among (keys_of t.pages)) here in
     let among : is_among pid (pids_to_write t) ≡ true = stays_among pid (keys_of (filter (λ l. is_old l.1) t.logged)) (keys_of t.pages) used in
-    let empty : pid_text Upgrade t pid ≡ [] = each_empty (pid_text Upgrade t) pid (pids_to_write t) among none in
-    page_written pid p (logged_of t pid) (subst (λ (o : Option PageOfKind). frames_of pid (lacking Shared o (outdate (logged_of t pid))) ≡ []) here empty)
+    let empty : pid_frames Upgrade t pid ≡ [] = each_empty (pid_frames Upgrade t) pid (pids_to_write t) among none in
+    page_written pid p (logged_of t pid) (subst (λ (o : Option PageOfKind). frames_of pid (lacking PrefixCompressed o (outdate (logged_of t pid))) ≡ []) here empty)
 
-pub upgrade-some : (s : Settings) (t : Tree) → IsProper s t → upgrade_text t ≢ []
+pub upgrade-some : (s : Settings) (t : Tree) → IsProper s t → upgrade_frames t ≢ []
 upgrade-some s t proper = of (levels_of t).level proper.levels.first proper.held.leaves
   where
-    of : (level : List (Placed Bytes)) → next_low level None ≡ Some [] → HasLeaves t.pages level → upgrade_text t ≢ []
+    of : (level : List (Placed Bytes)) → next_low level None ≡ Some [] → HasLeaves t.pages level → upgrade_frames t ≢ []
     of [] first leaves none = absurd (cc)
     of (p ∷ ps) first leaves none = written t p.pid (Leaf p.page) leaves.0 none

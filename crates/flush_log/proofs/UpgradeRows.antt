@@ -11,7 +11,7 @@ use Rattle.frame_codec.proofs.RowForms.{hex}
 use Rattle.frame_codec.proofs.VersionLemmas.{in_version}
 use Rattle.flush_log.specs.AfterFlush.{flush_slot, of_version_two, after_upgrade, upgrade_calls}
 use Rattle.flush_log.specs.Commit.Call.{Write, Sync}
-use Rattle.flush_log.specs.FlushText.{upgrade_text}
+use Rattle.flush_log.specs.FlushText.{upgrade_frames}
 use Rattle.flush_log.specs.Layout.{spans, with_spans, found_in_text}
 use Rattle.flush_log.specs.NewStore.{first_frame, new_bytes}
 use Rattle.flush_log.specs.Overlay.{overlay}
@@ -35,7 +35,7 @@ upgraded_file = with_spans S flushed_file (spans S 136 shared_text_of_row_4)
 abbrev slot_of_upgrade : Slot
 slot_of_upgrade = record { sequence = 3; head = 0; tail = 238; root = 2; height = 2; version = Two }
 
-slot : flush_slot S (of_version_two (flushed_store One)) (upgrade_text (flushed_store One).tree) ≡ slot_of_upgrade
+slot : flush_slot S (of_version_two (flushed_store One)) (upgrade_frames (flushed_store One).tree) ≡ slot_of_upgrade
 slot = refl
 
 -- slot 1, which is open since the store was made, is closed first

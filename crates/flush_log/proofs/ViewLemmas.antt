@@ -4,7 +4,7 @@ use Rattle.std.proofs.Common.{◌≡◌, inl, inr, ⊎_elim, ℕ, zero, suc, ◌
 use Rattle.std.proofs.lemmas.Bool.{cases_lt, false≢true}
 use Rattle.std.proofs.lemmas.List.{length-take}
 use Rattle.flush_log.specs.Overlay.{overlay, IsBeside}
-use Rattle.flush_log.specs.Disk.{HasFailed, CountsFailure, View, Lawful, Only, IsSettled, Torn, Elapses, Leaves, LeavesOnly}
+use Rattle.flush_log.specs.Disk.{HasFailed, CountsFailure, View, Lawful, Only, IsSynced, Torn, Elapses, Leaves, LeavesOnly}
 use Rattle.flush_log.specs.Commit.{Call, seen_after, MayLeave, LeftDuring}
 use Rattle.flush_log.specs.Commit.Call.{Write, Sync}
 use Rattle.flush_log.proofs.OverlayLemmas.{agree_less}
@@ -141,13 +141,13 @@ pub record AreMade (old new : View) (calls : List Call) : Type 0 where
   pub now : (c : List ℕ) → new.may_leave c → MayLeave calls old.seen (λ d. d ≡ old.seen) c
   pub since : LeavesOnly old new (LeftDuring calls old.seen)
 
-pub none_made : (v : View) → Lawful v → IsSettled v → AreMade v v []
-none_made v law settled = record {
+pub none_made : (v : View) → Lawful v → IsSynced v → AreMade v v []
+none_made v law is_synced = record {
   seen = refl;
-  now = λ c left. settled.only c left;
+  now = λ c left. is_synced.only c left;
   since = record {
     later = omega arith;
-    each = λ c left. (0, settled.only c (law.only_now c left));
+    each = λ c left. (0, is_synced.only c (law.only_now c left));
     before = λ t c le left. inl left;
   };
 }

@@ -6,7 +6,7 @@ use Rattle.std.proofs.lemmas.List.{reverse-append, drop-append-le, drop_all, len
 use Rattle.keys.specs.Bytes.{Bytes}
 use Rattle.index_page.proofs.ListLemmas.{all-append, all_apart}
 use Rattle.frame_codec.specs.Frame.{Content, Frame, bytes_of}
-use Rattle.frame_codec.specs.Sized.{HasWords}
+use Rattle.frame_codec.specs.Sized.{FitsU64}
 use Rattle.flush_log.specs.FlushText.{frames_of}
 use Rattle.flush_log.specs.ImageWork.{AreWritten}
 
@@ -15,7 +15,7 @@ use Rattle.flush_log.specs.ImageWork.{AreWritten}
 pub written-none : (pid : ℕ) (old : List Bytes) → AreWritten pid [] old old
 written-none pid old = record { bytes = sym (append-nil old); words = tt }
 
-pub written-one : (pid : ℕ) (c : Content) (old new : List Bytes) → new ≡ old ++ bytes_of (record { pid = pid; content = c }) ∷ [] → HasWords (record { pid = pid; content = c }) → AreWritten pid (c ∷ []) old new
+pub written-one : (pid : ℕ) (c : Content) (old new : List Bytes) → new ≡ old ++ bytes_of (record { pid = pid; content = c }) ∷ [] → FitsU64 (record { pid = pid; content = c }) → AreWritten pid (c ∷ []) old new
 written-one pid c old new e w = record { bytes = e; words = (w, tt) }
 
 -- a content as a frame
@@ -29,12 +29,12 @@ written-then pid cs ds old mid new a b =
     let parts : map (λ f. bytes_of f) (frames_of pid (cs ++ ds)) ≡ one ++ two = ap (λ (fs : List Frame). map (λ f. bytes_of f) fs) (map-append (of_pid pid) cs ds) ∙ map-append (λ f. bytes_of f) (frames_of pid cs) (frames_of pid ds) in
     record {
       bytes = b.bytes ∙ ap (λ (bs : List Bytes). bs ++ two) a.bytes ∙ append_assoc old one two ∙ ap (λ (bs : List Bytes). old ++ bs) (sym parts);
-      words = subst (λ (fs : List Frame). AllByRecursion HasWords fs) (sym (map-append (of_pid pid) cs ds)) (all-append HasWords (frames_of pid cs) (frames_of pid ds) a.words b.words);
+      words = subst (λ (fs : List Frame). AllByRecursion FitsU64 fs) (sym (map-append (of_pid pid) cs ds)) (all-append FitsU64 (frames_of pid cs) (frames_of pid ds) a.words b.words);
     }
 
 -- the first content of an image, and then the others
 pub written-first : (pid : ℕ) (c d : Content) (cs : List Content) (start one new : List Bytes) → start ≡ [] → d ≡ c → one ≡ start ++ bytes_of (record { pid = pid; content = d }) ∷ []
-    → HasWords (record { pid = pid; content = d }) → AreWritten pid cs one new → AreWritten pid (c ∷ cs) [] new
+    → FitsU64 (record { pid = pid; content = d }) → AreWritten pid cs one new → AreWritten pid (c ∷ cs) [] new
 written-first pid c d cs start one new none same e w more =
     let first : one ≡ bytes_of (record { pid = pid; content = d }) ∷ [] = e ∙ ap (λ (bs : List Bytes). bs ++ bytes_of (record { pid = pid; content = d }) ∷ []) none in
     subst (λ (x : Content). AreWritten pid (x ∷ cs) [] new) same (written-then pid (d ∷ []) cs [] one new (written-one pid d [] one first w) more)
@@ -69,12 +69,12 @@ module _ {X : Type 0} (f : X → Content) where
         (parts.0, parts.1.0)
 
     written-newest : (pid : ℕ) (old mid new : List Bytes) → AreWritten pid (drop k (contents runs)) old mid → new ≡ mid ++ bytes_of (record { pid = pid; content = f run }) ∷ []
-        → HasWords (record { pid = pid; content = f run }) → AreWritten pid (drop k (contents all)) old new
+        → FitsU64 (record { pid = pid; content = f run }) → AreWritten pid (drop k (contents all)) old new
     written-newest pid old mid new older e w =
         subst (λ (cs : List Content). AreWritten pid cs old new) (sym split) (written-then pid (drop k (contents runs)) (f run ∷ []) old mid new older (written-one pid (f run) mid new e w))
 
     pub on_ok-newest : (pid : ℕ) (old mid new : List Bytes) (r : Result (Unit {0}) AllocError) → AreWritten pid (drop k (contents runs)) old mid → OnOk r (new ≡ mid ++ bytes_of (record { pid = pid; content = f run }) ∷ [])
-        → OnOk r (HasWords (record { pid = pid; content = f run })) → OnOk r (AreWritten pid (drop k (contents all)) old new)
+        → OnOk r (FitsU64 (record { pid = pid; content = f run })) → OnOk r (AreWritten pid (drop k (contents all)) old new)
     on_ok-newest pid old mid new (Ok u) older e w = written-newest pid old mid new older e w
     on_ok-newest pid old mid new (Err x) older e w = tt
 

@@ -9,7 +9,7 @@ use Rattle.keys.specs.declared.version.Version.TheVariants.{One, Two}
 use Rattle.mapping.specs.Tree.{Tree, Store}
 use Rattle.frame_codec.specs.Frame.{Frame}
 use Rattle.flush_log.specs.Commit.{Call, commit_calls, committed}
-use Rattle.flush_log.specs.FlushText.{flush_text, upgrade_text, flushed}
+use Rattle.flush_log.specs.FlushText.{flush_frames, upgrade_frames, flushed}
 use Rattle.flush_log.specs.Layout.{Span, tail_after, spans, is_full_for_flush}
 use Rattle.flush_log.specs.Slot.{Slot, greatest}
 
@@ -59,7 +59,7 @@ after_text s st file (f ∷ fs) =
 
 -- the result of a flush: the store and the bytes of its disk afterwards, or the fault
 abbrev pub after_flush : Settings → Store → Bytes → Result (Store × Bytes) Fault
-after_flush s st file = after_text s st file (flush_text st.version st.tree)
+after_flush s st file = after_text s st file (flush_frames st.version st.tree)
 
 -- the store with a log of version 2
 abbrev pub of_version_two : Store → Store
@@ -72,7 +72,7 @@ unless_upgraded Two answer = Err AlreadyUpgraded
 
 -- the result of an upgrade
 abbrev pub after_upgrade : Settings → Store → Bytes → Result (Store × Bytes) Fault
-after_upgrade s st file = unless_upgraded st.version (after_text s (of_version_two st) file (upgrade_text st.tree))
+after_upgrade s st file = unless_upgraded st.version (after_text s (of_version_two st) file (upgrade_frames st.tree))
 
 -- ---- disk calls
 
@@ -83,8 +83,8 @@ text_calls s st file (f ∷ fs) = calls_for s file (flush_commit s st (f ∷ fs)
 
 -- the calls of a flush
 abbrev pub flush_calls : Settings → Store → Bytes → List Call
-flush_calls s st file = text_calls s st file (flush_text st.version st.tree)
+flush_calls s st file = text_calls s st file (flush_frames st.version st.tree)
 
 -- the calls of an upgrade
 abbrev pub upgrade_calls : Settings → Store → Bytes → List Call
-upgrade_calls s st file = text_calls s (of_version_two st) file (upgrade_text st.tree)
+upgrade_calls s st file = text_calls s (of_version_two st) file (upgrade_frames st.tree)

@@ -38,7 +38,7 @@ pub record CommitPlan : Type 0 where
 -- it is the commit that adds these frames to the log of slot t, and it does not fail: the frames lie within the disk, and the buffer has room for a
 -- segment
 pub record IsPlanned (s : Settings) (t : Slot) (text : List Frame) (p : CommitPlan) : Type 0 where
-  pub spelled : AreImages (format_of s t) text p.images
+  pub encoded : AreImages (format_of s t) text p.images
   pub from : p.tail ≡ t.tail
   pub slot : p.slot ≡ next_slot s t text
   pub unspent : is_spent (next_slot s t text) ≡ false

@@ -35,7 +35,7 @@ abbrev pub Only : Bytes → (Bytes → Type 0) → Type 0
 Only file outcomes = (c : Bytes) → outcomes c → c ≡ file
 
 -- the disk is honest, and a crash now leaves the readable contents
-pub record IsSettled (v : View) : Type 0 where
+pub record IsSynced (v : View) : Type 0 where
   pub honest : IsTrue v.is_honest
   pub only : Only v.seen v.may_leave
 

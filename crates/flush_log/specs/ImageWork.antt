@@ -13,35 +13,35 @@ use Rattle.mapping.specs.Proper.{IsProper}
 use Rattle.mapping.specs.Tree.{Logged, Tree, page_at, logged_of}
 use Rattle.mapping.specs.Tree.Logged.{No, Old, Upto}
 use Rattle.mapping.specs.declared.logged.Logged as of_code
-use Rattle.frame_codec.specs.declared.format.Spelling.{Spelling}
+use Rattle.frame_codec.specs.declared.format.KeyEncoding.{KeyEncoding}
 use Rattle.frame_codec.specs.Frame.{Content, Frame, bytes_of}
-use Rattle.frame_codec.specs.Sized.{IsSized, HasWords}
-use Rattle.flush_log.specs.FlushText.{spelling_of, lacking, frames_of, version_with, taken}
+use Rattle.frame_codec.specs.Sized.{IsSized, FitsU64}
+use Rattle.flush_log.specs.FlushText.{encoding_of, lacking, frames_of, version_with, taken}
 use Rattle.flush_log.specs.declared.image_work.ImageJob.{ImageJob}
-use Rattle.flush_log.specs.declared.text.Text.{Text}
+use Rattle.flush_log.specs.declared.text.CommitKind.{CommitKind}
 
 -- a pid, the key encoding for its base, its page if it has one, and its log state
 pub record ImageHeld : Type 0 where
   pub pid : ℕ
-  pub spelling : Spelling
+  pub encoding : KeyEncoding
   pub page : Option PageOfKind
   pub logged : Logged
 
 -- the input in a job: from its parts, and as a job
-abbrev pub image_held : ℕ → Spelling → Option (Bor PageOfKind) → of_code.Logged → ImageHeld
-image_held pid spelling page logged = record { pid = pid; spelling = spelling; page = option_copied page; logged = log_state logged }
+abbrev pub image_held : ℕ → KeyEncoding → Option (Bor PageOfKind) → of_code.Logged → ImageHeld
+image_held pid encoding page logged = record { pid = pid; encoding = encoding; page = option_copied page; logged = log_state logged }
 
 abbrev pub job_held : ImageJob → ImageHeld
-job_held j = image_held j.pid j.spelling j.page j.logged
+job_held j = image_held j.pid j.encoding j.page j.logged
 
 -- the input for a pid of a tree
-abbrev pub held_of_pid : Text → Tree → ℕ → ImageHeld
+abbrev pub held_of_pid : CommitKind → Tree → ℕ → ImageHeld
 held_of_pid text t pid =
-    record { pid = pid; spelling = spelling_of (version_with text); page = page_at t.pages pid; logged = taken text (logged_of t pid) }
+    record { pid = pid; encoding = encoding_of (version_with text); page = page_at t.pages pid; logged = taken text (logged_of t pid) }
 
 -- the frames that must be written for it
 abbrev pub held_text : ImageHeld → List Frame
-held_text h = frames_of h.pid (lacking h.spelling h.page h.logged)
+held_text h = frames_of h.pid (lacking h.encoding h.page h.logged)
 
 -- the encodings of these frames
 abbrev pub image_made : ImageHeld → List Bytes
@@ -54,7 +54,7 @@ HasFewRuns (Some p) = page_depth p < 2 ^ 31
 
 -- a valid input: a store may have the contents to be written, by their sizes, and the page has few runs
 pub record CanBeWritten (h : ImageHeld) : Type 0 where
-  pub sized : AllByRecursion IsSized (lacking h.spelling h.page h.logged)
+  pub sized : AllByRecursion IsSized (lacking h.encoding h.page h.logged)
   pub few : HasFewRuns h.page
 
 -- a valid input with something to write
@@ -70,11 +70,11 @@ lacking_by (Upto k) base runs = drop k runs
 -- these contents were appended as frames of one pid, and each page id in them has 64 bits
 pub record AreWritten (pid : ℕ) (cs : List Content) (old new : List Bytes) : Type 0 where
   pub bytes : new ≡ old ++ map (λ f. bytes_of f) (frames_of pid cs)
-  pub words : AllByRecursion HasWords (frames_of pid cs)
+  pub words : AllByRecursion FitsU64 (frames_of pid cs)
 
 -- this is the image for the input
 abbrev pub IsImageOf : ImageHeld → List Bytes → Type 0
-IsImageOf h image = AreWritten h.pid (lacking h.spelling h.page h.logged) [] image
+IsImageOf h image = AreWritten h.pid (lacking h.encoding h.page h.logged) [] image
 
 -- the tree of a store: it is proper under valid settings
 abbrev pub IsOfStore : Tree → Type 0

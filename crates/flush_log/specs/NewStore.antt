@@ -3,7 +3,7 @@ use Rattle.std.specs.Prelude.{ℕ, ◌+◌, ◌-◌, [], ◌++◌, replicate}
 use Rattle.keys.specs.Bytes.{Bytes}
 use Rattle.keys.specs.declared.settings.Settings.{Settings}
 use Rattle.keys.specs.declared.version.Version.TheVariants.{One}
-use Rattle.frame_codec.specs.declared.format.Spelling.TheVariants.{Whole}
+use Rattle.frame_codec.specs.declared.format.KeyEncoding.TheVariants.{Whole}
 use Rattle.frame_codec.specs.Frame.{Frame, bytes_of}
 use Rattle.frame_codec.specs.Frame.Content.{FullLeaf}
 use Rattle.flush_log.specs.Overlay.{overlay}

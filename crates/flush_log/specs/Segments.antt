@@ -10,7 +10,7 @@ segment_magic = codes "BWSG"
 
 -- the header of segment n
 abbrev pub segment_header : ℕ → Bytes
-segment_header n = segment_magic ++ ((number 4).spell 0 ++ (number 8).spell n)
+segment_header n = segment_magic ++ ((number 4).encode 0 ++ (number 8).encode n)
 
 -- the offset of the first segment in a file: after the settings block and the slots
 abbrev pub segments_begin : ℕ

@@ -30,8 +30,8 @@ settings_block_size = 64
 abbrev pub settings_block : Settings → Bytes
 settings_block s =
     store_magic
-    ++ (number 2).spell s.fan ++ (number 2).spell s.chain ++ (number 2).spell s.max_key ++ (number 2).spell s.max_value
-    ++ (number 4).spell s.seg_size ++ (number 4).spell s.segments
+    ++ (number 2).encode s.fan ++ (number 2).encode s.chain ++ (number 2).encode s.max_key ++ (number 2).encode s.max_value
+    ++ (number 4).encode s.seg_size ++ (number 4).encode s.segments
     ++ replicate 40 0
 
 -- the settings from the numbers in the block, each given by its size in bytes and its place

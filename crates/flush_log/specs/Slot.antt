@@ -62,8 +62,8 @@ slot_place n = slots_begin + slot_size * (n % 2)
 abbrev pub slot_body : Slot → Bytes
 slot_body t =
     replicate 7 0
-    ++ (number 8).spell t.sequence ++ (number 8).spell t.head ++ (number 8).spell t.tail ++ (number 8).spell t.root
-    ++ (number 4).spell t.height ++ (number 4).spell (version_number t.version)
+    ++ (number 8).encode t.sequence ++ (number 8).encode t.head ++ (number 8).encode t.tail ++ (number 8).encode t.root
+    ++ (number 4).encode t.height ++ (number 4).encode (version_number t.version)
     ++ replicate 16 0
 
 -- the bytes of an open slot

@@ -13,14 +13,14 @@ use Rattle.flush_log.specs.Segments.{segment_header, segment_bytes, last_segment
 -- the bytes are the header of segment n, these frames and `zeros` zeros
 pub record AreFrames (g : Format) (n : ℕ) (fs : List Frame) (zeros : ℕ) (bytes : Bytes) : Type 0 where
   pub within : AllByRecursion (λ f. is_frame g f ≡ true) fs
-  pub spelled : bytes ≡ segment_header n ++ (flat_map bytes_of fs ++ replicate zeros 0)
+  pub encoded : bytes ≡ segment_header n ++ (flat_map bytes_of fs ++ replicate zeros 0)
 
 -- the bytes are that header, some frames up to an offset, and then neither a frame nor the end
 pub record IsBrokenAt (g : Format) (is_end : Bytes → Bool) (n offset : ℕ) (bytes : Bytes) : Type 0 where
   pub before : List Frame
   pub following : Bytes
   pub within : AllByRecursion (λ f. is_frame g f ≡ true) before
-  pub spelled : bytes ≡ segment_header n ++ (flat_map bytes_of before ++ following)
+  pub encoded : bytes ≡ segment_header n ++ (flat_map bytes_of before ++ following)
   pub place : offset ≡ segment_header_size + length (flat_map bytes_of before)
   pub no_end : is_end following ≡ false
   pub no_frame : read_frame g following ≡ None

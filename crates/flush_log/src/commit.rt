@@ -3,7 +3,7 @@
 ghost use Rattle.std.specs.Prelude.{◌≡◌, ◌⊎◌, ◌+◌, ◌≤◌, false, IsTrue, length, None, IfOk, OnOk};
 ghost use Rattle.keys.specs.Limits.{first_bad_field};
 ghost use Rattle.flush_log.specs.Overlay.{overlay, AgreeAt};
-ghost use Rattle.flush_log.specs.Disk.{IsSettled, Torn, Kept, Leaves, LeavesOnly, CountsFailure, OnlyRead};
+ghost use Rattle.flush_log.specs.Disk.{IsSynced, Torn, Kept, Leaves, LeavesOnly, CountsFailure, OnlyRead};
 ghost use Rattle.flush_log.specs.Images.{frames_in, FitSegments, ForText, HaveRoomAfter};
 ghost use Rattle.flush_log.specs.Segments.{segments_begin, disk_size};
 ghost use Rattle.flush_log.specs.Layout.{spans, with_spans};
@@ -13,7 +13,7 @@ ghost use Rattle.flush_log.specs.Commit.{seen_after, AreWithin, close_gate, IsCl
 use crate::disk::{Disk, DiskFault};
 use crate::image::Image;
 use crate::slot::{SLOT_SIZE, Slot, slot_bytes};
-use crate::write::write_text;
+use crate::write::write_frames;
 use keys::Settings;
 
 /// The offset of the slots on a disk.
@@ -47,8 +47,8 @@ pub fn write_through<D: Disk>(disk: &mut D, at: u64, bytes: &[u8]) -> Result<(),
     ensures failed { CountsFailure result (D.failed disk.old) (D.failed disk.new) }
     ensures written { IsTrue (D.view disk.old).is_honest →
         OnOk result ((D.view disk.new).seen ≡ overlay (D.view disk.old).seen at bytes.now) }
-    ensures settled { IsTrue (D.view disk.old).is_honest →
-        OnOk result (IsSettled (D.view disk.new)) }
+    ensures is_synced { IsTrue (D.view disk.old).is_honest →
+        OnOk result (IsSynced (D.view disk.new)) }
     ensures crash { IsTrue (D.view disk.old).is_honest →
         Leaves (D.view disk.old) (D.view disk.new) (Torn at (length bytes.now)) }
 {
@@ -82,9 +82,9 @@ pub fn write_slot<D: Disk>(disk: &mut D, slot: &Slot) -> Result<(), DiskFault>
     ensures failed { CountsFailure result (D.failed disk.old) (D.failed disk.new) }
     ensures written { IsTrue (D.view disk.old).is_honest → OnOk result ((D.view disk.new).seen
         ≡ overlay (D.view disk.old).seen (slot_place slot.now.sequence) (slot_bytes slot.now)) }
-    ensures settled { IsTrue (D.view disk.old).is_honest →
-        OnOk result (IsSettled (D.view disk.new)) }
-    ensures crash { IsSettled (D.view disk.old) →
+    ensures is_synced { IsTrue (D.view disk.old).is_honest →
+        OnOk result (IsSynced (D.view disk.new)) }
+    ensures crash { IsSynced (D.view disk.old) →
         is_open_on slot.now.sequence (D.view disk.old).seen ≡ false →
         LeavesOnly (D.view disk.old) (D.view disk.new)
         (λ c. LeavesGateClosed slot.now.sequence (D.view disk.old).seen c
@@ -97,7 +97,7 @@ pub fn write_slot<D: Disk>(disk: &mut D, slot: &Slot) -> Result<(), DiskFault>
     write_through(disk, gate, &bytes[..1])
 }
 
-// Writes the frames after the tail of a log, as `write_text` does; without frames, writes nothing.
+// Writes the frames after the tail of a log, as `write_frames` does; without frames, writes nothing.
 fn write_images<D: Disk>(
     disk: &mut D,
     settings: &Settings,
@@ -124,7 +124,7 @@ fn write_images<D: Disk>(
     if images.is_empty() {
         return Ok(());
     }
-    write_text(disk, settings, tail, images, buffer)
+    write_frames(disk, settings, tail, images, buffer)
 }
 
 // The first half of a commit: closes the gate, and writes and syncs the frames.
@@ -150,11 +150,11 @@ fn write_hidden<D: Disk>(
         ≡ with_spans settings.now
         (seen_after (close_gate is_open (slot_place sequence)) (D.view disk.old).seen)
         (spans settings.now tail text))) }
-    ensures settled { IsTrue (D.view disk.old).is_honest →
-        OnOk result (IsSettled (D.view disk.new)) }
+    ensures is_synced { IsTrue (D.view disk.old).is_honest →
+        OnOk result (IsSynced (D.view disk.new)) }
     ensures crash { ForText images.now (λ text.
         AreWithin settings.now (disk_size settings.now) (spans settings.now tail text) →
-        IsSettled (D.view disk.old) → is_open ≡ is_open_on sequence (D.view disk.old).seen →
+        IsSynced (D.view disk.old) → is_open ≡ is_open_on sequence (D.view disk.old).seen →
         LeavesOnly (D.view disk.old) (D.view disk.new) (IsUncommitted settings.now sequence
         (spans settings.now tail text) (D.view disk.old).seen)) }
 {
@@ -192,11 +192,11 @@ pub fn write_flush<D: Disk>(
         IsTrue (D.view disk.old).is_honest →
         OnOk result ((D.view disk.new).seen
         ≡ committed settings.now (D.view disk.old).seen (spans settings.now tail text) slot.now)) }
-    ensures settled { IsTrue (D.view disk.old).is_honest →
-        OnOk result (IsSettled (D.view disk.new)) }
+    ensures is_synced { IsTrue (D.view disk.old).is_honest →
+        OnOk result (IsSynced (D.view disk.new)) }
     ensures crash { ForText images.now (λ text.
         AreWithin settings.now (disk_size settings.now) (spans settings.now tail text) →
-        IsSettled (D.view disk.old) →
+        IsSynced (D.view disk.old) →
         is_open ≡ is_open_on slot.now.sequence (D.view disk.old).seen →
         LeavesOnly (D.view disk.old) (D.view disk.new)
         (λ c. IsUncommitted settings.now slot.now.sequence

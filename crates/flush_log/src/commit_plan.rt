@@ -4,7 +4,7 @@ ghost use Rattle.keys.specs.Limits.{first_bad_field};
 ghost use Rattle.keys.specs.declared.fault.Fault.TheVariants.{NoMemory};
 ghost use Rattle.frame_codec.specs.Frame.{Frame};
 ghost use Rattle.flush_log.specs.CommitPlan.{AreImages, next_tail, IsPlanned, file_with, LeftOf};
-ghost use Rattle.flush_log.specs.Disk.{IsSettled, Kept, LeavesOnly, CountsFailure};
+ghost use Rattle.flush_log.specs.Disk.{IsSynced, Kept, LeavesOnly, CountsFailure};
 ghost use Rattle.flush_log.specs.Segments.{disk_size};
 ghost use Rattle.flush_log.specs.Slot as slots;
 ghost use Rattle.flush_log.specs.Slot.{greatest, format_of};
@@ -121,10 +121,10 @@ impl Commit {
             IsPlanned settings.now t text self → IsTrue (D.view disk.old).is_honest →
             OnOk result ((D.view disk.new).seen
             ≡ file_with settings.now t text (D.view disk.old).seen) }
-        ensures settled { IsTrue (D.view disk.old).is_honest →
-            OnOk result (IsSettled (D.view disk.new)) }
+        ensures is_synced { IsTrue (D.view disk.old).is_honest →
+            OnOk result (IsSynced (D.view disk.new)) }
         ensures crash { (t : slots.Slot) (text : List Frame) → IsPlanned settings.now t text self →
-            IsSettled (D.view disk.old) →
+            IsSynced (D.view disk.old) →
             LeavesOnly (D.view disk.old) (D.view disk.new)
             (LeftOf settings.now t text (D.view disk.old).seen) }
     {

@@ -4,9 +4,9 @@ ghost use Rattle.std.proofs.Common.{inl, ⊎_elim, sym, ap, ◌∙◌, arith, le
 ghost use Rattle.std.proofs.Props.{props};
 ghost use Rattle.std.proofs.lemmas.List.{length-replicate};
 ghost use Rattle.flush_log.specs.Overlay.{overlay};
-ghost use Rattle.flush_log.specs.Disk.{IsSettled, Torn, Kept, Same, Leaves, CountsFailure, HasFailed};
+ghost use Rattle.flush_log.specs.Disk.{IsSynced, Torn, Kept, Same, Leaves, CountsFailure, HasFailed};
 ghost use Rattle.flush_log.specs.Record.{AreCalls, end_of_call, call_of, calls_of};
-ghost use Rattle.flush_log.specs.Crash.{torn_by, left_with, all_torn, IsSettledAt};
+ghost use Rattle.flush_log.specs.Crash.{torn_by, left_with, all_torn, IsSyncedAt};
 ghost use Rattle.flush_log.specs.Faults.{moment_at, IsCutShort};
 ghost use Rattle.flush_log.specs.declared.crash_disk.Moment.TheVariants.{Running, Stopping, Stopped};
 
@@ -51,15 +51,15 @@ pub struct CrashDisk<A: Allocator + Copy> {
     alloc: A,
     disk: MemDisk<A>,
     // The readable contents at the last sync, and the number of recorded calls at that time.
-    settled: Vec<u8, A>,
+    is_synced: Vec<u8, A>,
     since: usize,
     // The number of the call at which the disk stops.
     stops_at: Option<u64>,
     calls: u64,
     failures: u64,
     ghost whole: { length disk.kept.items ≡ disk.len },
-    ghost left: { IsSettledAt (replicate disk.len 0)
-        (calls_of disk.calls.items) since settled.items } by { Prim.hlevel props },
+    ghost left: { IsSyncedAt (replicate disk.len 0)
+        (calls_of disk.calls.items) since is_synced.items } by { Prim.hlevel props },
 }
 
 // Whether a write or a sync comes before, at or after the call at which the disk stops.
@@ -76,7 +76,7 @@ impl<A: Allocator + Copy> CrashDisk<A> {
         ensures size { IfOk result (λ disk. (⟦<CrashDisk<A> as Disk>⟧.view disk).size ≡ len) }
         ensures seen { IfOk result
             (λ disk. (⟦<CrashDisk<A> as Disk>⟧.view disk).seen ≡ replicate len 0) }
-        ensures settled { IfOk result (λ disk. IsSettled (⟦<CrashDisk<A> as Disk>⟧.view disk)) }
+        ensures is_synced { IfOk result (λ disk. IsSynced (⟦<CrashDisk<A> as Disk>⟧.view disk)) }
         ensures failures { IfOk result (λ disk. ⟦<CrashDisk<A> as Disk>⟧.failed disk ≡ 0) }
         ensures running { IfOk result (λ disk. disk.stops_at ≡ None) }
         ensures calls { IfOk result (λ disk. disk.calls ≡ 0) }
@@ -92,18 +92,18 @@ impl<A: Allocator + Copy> CrashDisk<A> {
             (λ disk. (⟦<CrashDisk<A> as Disk>⟧.view disk).size ≡ length bytes.items) }
         ensures seen { IfOk result
             (λ disk. (⟦<CrashDisk<A> as Disk>⟧.view disk).seen ≡ bytes.items) }
-        ensures settled { IfOk result (λ disk. IsSettled (⟦<CrashDisk<A> as Disk>⟧.view disk)) }
+        ensures is_synced { IfOk result (λ disk. IsSynced (⟦<CrashDisk<A> as Disk>⟧.view disk)) }
         ensures failures { IfOk result (λ disk. ⟦<CrashDisk<A> as Disk>⟧.failed disk ≡ 0) }
         ensures running { IfOk result (λ disk. disk.stops_at ≡ None) }
         ensures calls { IfOk result (λ disk. disk.calls ≡ 0) }
     {
-        let settled = bytes.to_vec(alloc)?;
+        let is_synced = bytes.to_vec(alloc)?;
         let disk = MemDisk::holding(alloc, bytes)?;
         let since = disk.calls().len();
         Ok(CrashDisk {
             alloc,
             disk,
-            settled,
+            is_synced,
             since,
             stops_at: None,
             calls: 0,
@@ -152,14 +152,14 @@ impl<A: Allocator + Copy> CrashDisk<A> {
         ensures written { fill ≡ Fill.Written →
             IfOk result (λ disk. (⟦<CrashDisk<A> as Disk>⟧.view disk).seen
             ≡ (⟦<CrashDisk<A> as Disk>⟧.view self.now).seen) }
-        ensures settled { IfOk result (λ disk. IsSettled (⟦<CrashDisk<A> as Disk>⟧.view disk)) }
+        ensures is_synced { IfOk result (λ disk. IsSynced (⟦<CrashDisk<A> as Disk>⟧.view disk)) }
         ensures size { IfOk result (λ disk. (⟦<CrashDisk<A> as Disk>⟧.view disk).size
             ≡ (⟦<CrashDisk<A> as Disk>⟧.view self.now).size) }
         ensures failures { IfOk result (λ disk. ⟦<CrashDisk<A> as Disk>⟧.failed disk ≡ 0) }
         ensures running { IfOk result (λ disk. disk.stops_at ≡ None) }
         ensures calls { IfOk result (λ disk. disk.calls ≡ 0) }
     {
-        let mut bytes = self.settled.to_vec(self.alloc)?;
+        let mut bytes = self.is_synced.to_vec(self.alloc)?;
         tear(&mut bytes, &self.disk.calls()[self.since..], fill);
         CrashDisk::holding(self.alloc, bytes)
     }
@@ -292,8 +292,8 @@ impl<A: Allocator + Copy> Disk for CrashDisk<A> {
             (⟦<CrashDisk<A> as Disk>⟧.view self.old) (⟦<CrashDisk<A> as Disk>⟧.view self.new) }
         ensures failed { CountsFailure result
             (⟦<CrashDisk<A> as Disk>⟧.failed self.old) (⟦<CrashDisk<A> as Disk>⟧.failed self.new) }
-        ensures settled { IsTrue (⟦<CrashDisk<A> as Disk>⟧.view self.old).is_honest →
-            OnOk result (IsSettled (⟦<CrashDisk<A> as Disk>⟧.view self.new)) }
+        ensures is_synced { IsTrue (⟦<CrashDisk<A> as Disk>⟧.view self.old).is_honest →
+            OnOk result (IsSynced (⟦<CrashDisk<A> as Disk>⟧.view self.new)) }
         ensures seen { IsTrue (⟦<CrashDisk<A> as Disk>⟧.view self.old).is_honest →
             (⟦<CrashDisk<A> as Disk>⟧.view self.new).seen
             ≡ (⟦<CrashDisk<A> as Disk>⟧.view self.old).seen }
@@ -317,7 +317,7 @@ impl<A: Allocator + Copy> Disk for CrashDisk<A> {
         match self.disk.sync_recorded() {
             Ok(()) => {
                 tear(
-                    &mut self.settled,
+                    &mut self.is_synced,
                     &self.disk.calls()[self.since..],
                     Fill::Written,
                 );

@@ -3,7 +3,7 @@
 ghost use Rattle.std.specs.Prelude.{◌≡◌, ℕ, ◌+◌, ◌-◌, ◌^◌, ◌≤◌, min, IsTrue, length, take, drop, OnOk};
 ghost use Rattle.keys.specs.declared.fault.Fault.TheVariants.{Device};
 ghost use Rattle.flush_log.specs.Overlay.{overlay};
-ghost use Rattle.flush_log.specs.Disk.{View, Lawful, IsSettled, Torn, Kept, Same, Leaves, CountsFailure};
+ghost use Rattle.flush_log.specs.Disk.{View, Lawful, IsSynced, Torn, Kept, Same, Leaves, CountsFailure};
 
 use keys::Fault;
 use std::error::Error;
@@ -95,8 +95,8 @@ pub trait Disk {
     fn sync(&mut self) -> Result<(), DiskFault>
         ensures kept { Kept (view self.old) (view self.new) }
         ensures failed { CountsFailure result (failed self.old) (failed self.new) }
-        ensures settled { IsTrue (view self.old).is_honest →
-            OnOk result (IsSettled (view self.new)) }
+        ensures is_synced { IsTrue (view self.old).is_honest →
+            OnOk result (IsSynced (view self.new)) }
         ensures seen { IsTrue (view self.old).is_honest →
             (view self.new).seen ≡ (view self.old).seen }
         ensures crash { IsTrue (view self.old).is_honest →

@@ -3,7 +3,7 @@ ghost use Rattle.std.specs.Prelude.{◌≡◌, ◌⊎◌, ℕ, ◌+◌, ◌-◌,
 ghost use Rattle.std.proofs.Common.{inl, ⊎_elim, sym, ap, ◌∙◌, arith, length-append};
 ghost use Rattle.std.proofs.lemmas.List.{length-replicate};
 ghost use Rattle.flush_log.specs.Overlay.{overlay};
-ghost use Rattle.flush_log.specs.Disk.{IsSettled, Torn, Kept, Same, Leaves, CountsFailure, HasFailed};
+ghost use Rattle.flush_log.specs.Disk.{IsSynced, Torn, Kept, Same, Leaves, CountsFailure, HasFailed};
 ghost use Rattle.flush_log.specs.Faults.{is_wanted, IsCutShort};
 
 use crate::disk::{Disk, DiskFault, count_failure, counted};
@@ -183,8 +183,8 @@ impl<A: Allocator + Copy> Disk for FaultDisk<A> {
             (⟦<FaultDisk<A> as Disk>⟧.view self.old) (⟦<FaultDisk<A> as Disk>⟧.view self.new) }
         ensures failed { CountsFailure result
             (⟦<FaultDisk<A> as Disk>⟧.failed self.old) (⟦<FaultDisk<A> as Disk>⟧.failed self.new) }
-        ensures settled { IsTrue (⟦<FaultDisk<A> as Disk>⟧.view self.old).is_honest →
-            OnOk result (IsSettled (⟦<FaultDisk<A> as Disk>⟧.view self.new)) }
+        ensures is_synced { IsTrue (⟦<FaultDisk<A> as Disk>⟧.view self.old).is_honest →
+            OnOk result (IsSynced (⟦<FaultDisk<A> as Disk>⟧.view self.new)) }
         ensures seen { IsTrue (⟦<FaultDisk<A> as Disk>⟧.view self.old).is_honest →
             (⟦<FaultDisk<A> as Disk>⟧.view self.new).seen
             ≡ (⟦<FaultDisk<A> as Disk>⟧.view self.old).seen }

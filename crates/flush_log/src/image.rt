@@ -2,11 +2,11 @@
 ghost use Rattle.std.specs.Prelude.{◌≡◌, ◌<◌, ◌++◌, ◌∷◌, [], length, slice_get, IfOk, OnOk};
 ghost use Rattle.frame_codec.specs.Frame.{bytes_of};
 ghost use Rattle.frame_codec.specs.Frame.Content.{Free};
-ghost use Rattle.frame_codec.specs.Sized.{IsSized, HasWords};
+ghost use Rattle.frame_codec.specs.Sized.{IsSized, FitsU64};
 
 use crate::kind::Kind;
 use delta_chain::{Base, Run};
-use frame_codec::{Spelling, write_free};
+use frame_codec::{KeyEncoding, write_free};
 use keys::Pid;
 use std::alloc::{AllocError, Allocator, Global};
 use std::marker::Model;
@@ -70,18 +70,18 @@ impl Image {
     pub(crate) fn push_full<V: Kind<A>, A: Allocator>(
         &mut self,
         pid: Pid,
-        spelling: Spelling,
+        encoding: KeyEncoding,
         low: &[u8],
         base: &Base<V, A>,
     ) -> Result<(), AllocError>
-        requires { IsSized (V.full spelling low.now base.now) }
+        requires { IsSized (V.full encoding low.now base.now) }
         ensures ok { OnOk result (self.new ≡ self.old
-            ++ bytes_of (record { pid = pid; content = V.full spelling low.now base.now }) ∷ []) }
+            ++ bytes_of (record { pid = pid; content = V.full encoding low.now base.now }) ∷ []) }
         ensures words { OnOk result
-            (HasWords (record { pid = pid; content = V.full spelling low.now base.now })) }
+            (FitsU64 (record { pid = pid; content = V.full encoding low.now base.now })) }
     {
         self.ends.reserve(1)?;
-        V::write_full(pid, spelling, low, base, &mut self.bytes)?;
+        V::write_full(pid, encoding, low, base, &mut self.bytes)?;
         self.ends.push_reserved(self.bytes.len());
         Ok(())
     }
@@ -94,7 +94,7 @@ impl Image {
         requires { IsSized (V.delta run.now) }
         ensures ok { OnOk result (self.new
             ≡ self.old ++ bytes_of (record { pid = pid; content = V.delta run.now }) ∷ []) }
-        ensures words { OnOk result (HasWords (record { pid = pid; content = V.delta run.now })) }
+        ensures words { OnOk result (FitsU64 (record { pid = pid; content = V.delta run.now })) }
     {
         self.ends.reserve(1)?;
         V::write_delta(pid, run, &mut self.bytes)?;
@@ -106,7 +106,7 @@ impl Image {
     pub(crate) fn push_free(&mut self, pid: Pid) -> Result<(), AllocError>
         ensures ok { OnOk result
             (self.new ≡ self.old ++ bytes_of (record { pid = pid; content = Free }) ∷ []) }
-        ensures words { OnOk result (HasWords (record { pid = pid; content = Free })) }
+        ensures words { OnOk result (FitsU64 (record { pid = pid; content = Free })) }
     {
         self.ends.reserve(1)?;
         write_free(pid, &mut self.bytes)?;

@@ -2,20 +2,20 @@
 ghost use Rattle.std.specs.Prelude.{◌≡◌, ◌^◌, ◌<◌, ◌∷◌, [], map, reverse, drop, Some, None, IfOk, OnOk};
 ghost use Rattle.std.specs.List.{AllByRecursion};
 ghost use Rattle.delta_chain.specs.Layers.{depth_of};
-ghost use Rattle.delta_chain.specs.Late.{seen};
+ghost use Rattle.delta_chain.specs.Lazy.{seen};
 ghost use Rattle.mapping.specs.Flushed.{page_depth};
 ghost use Rattle.mapping.specs.LogState.{log_state};
-ghost use Rattle.frame_codec.specs.declared.format.Spelling as spellings;
+ghost use Rattle.frame_codec.specs.declared.format.KeyEncoding as encodings;
 ghost use Rattle.frame_codec.specs.Frame.Content.{FullLeaf, DeltaLeaf, FullIndex, DeltaIndex};
-ghost use Rattle.frame_codec.specs.Sized.{IsSized, HasWords};
+ghost use Rattle.frame_codec.specs.Sized.{IsSized, FitsU64};
 ghost use Rattle.flush_log.specs.FlushText.{lacking};
 ghost use Rattle.flush_log.specs.ImageWork.{image_held, held_text, image_made, CanBeWritten, lacking_by, AreWritten, IsImageOf};
 
 use crate::image::Image;
 use crate::kind::Kind;
 use crew::{Turn, Work};
-use delta_chain::{Base, Chain, ChainRef, LateChain};
-use frame_codec::Spelling;
+use delta_chain::{Base, Chain, ChainRef, LazyChain};
+use frame_codec::KeyEncoding;
 use index_page::Page;
 use keys::{Pid, Value};
 use mapping::Logged;
@@ -35,7 +35,7 @@ pub struct ImageWork<'a> {
 #[derive(Drop)]
 pub struct ImageJob<'a> {
     pub pid: Pid,
-    pub spelling: Spelling,
+    pub encoding: KeyEncoding,
     pub page: Option<&'a Page<Global>>,
     pub logged: Logged,
 }
@@ -71,7 +71,7 @@ impl<'a> ImageDone<'a> {
     /// Returns the image. The work can no longer be undone. Each page id in its frames has 64 bits.
     pub fn into_image(self) -> Image
         ensures image { result ≡ image_made self.entry }
-        ensures words { AllByRecursion HasWords (held_text self.entry) }
+        ensures words { AllByRecursion FitsU64 (held_text self.entry) }
     {
         let ImageDone { job: _job, image } = self;
         image
@@ -104,15 +104,15 @@ impl<'a> Work for ImageWork<'a> {
     fn work(&self, job: ImageJob<'a>) -> Turn<ImageJob<'a>, ImageDone<'a>> {
         let ImageJob {
             pid,
-            spelling,
+            encoding,
             page,
             logged,
         } = job;
-        match image_of(self.alloc, pid, spelling, page, logged) {
+        match image_of(self.alloc, pid, encoding, page, logged) {
             Ok(image) => Turn::Done(ImageDone {
                 job: ImageJob {
                     pid,
-                    spelling,
+                    encoding,
                     page,
                     logged,
                 },
@@ -120,7 +120,7 @@ impl<'a> Work for ImageWork<'a> {
             }),
             Err(_) => Turn::Back(ImageJob {
                 pid,
-                spelling,
+                encoding,
                 page,
                 logged,
             }),
@@ -135,23 +135,23 @@ impl<'a> Work for ImageWork<'a> {
 fn image_of(
     alloc: Global,
     pid: Pid,
-    spelling: Spelling,
+    encoding: KeyEncoding,
     page: Option<&Page<Global>>,
     logged: Logged,
 ) -> Result<Image, AllocError>
-    requires { CanBeWritten (image_held pid spelling page logged) }
-    ensures { IfOk result (λ image. IsImageOf (image_held pid spelling page.entry logged) image) }
+    requires { CanBeWritten (image_held pid encoding page logged) }
+    ensures { IfOk result (λ image. IsImageOf (image_held pid encoding page.entry logged) image) }
 {
     match page {
         None => free_image(alloc, pid, logged),
-        Some(page) => page_image(alloc, pid, spelling, page, logged),
+        Some(page) => page_image(alloc, pid, encoding, page, logged),
     }
 }
 
 // The image for a page id without a page.
 fn free_image(alloc: Global, pid: Pid, logged: Logged) -> Result<Image, AllocError>
-    ensures { (spelling : spellings.Spelling) →
-        IfOk result (λ image. AreWritten pid (lacking spelling None (log_state logged)) [] image) }
+    ensures { (encoding : encodings.KeyEncoding) →
+        IfOk result (λ image. AreWritten pid (lacking encoding None (log_state logged)) [] image) }
 {
     if logged != Logged::Old {
         return Image::with_capacity(alloc, 0);
@@ -164,20 +164,20 @@ fn free_image(alloc: Global, pid: Pid, logged: Logged) -> Result<Image, AllocErr
 fn page_image(
     alloc: Global,
     pid: Pid,
-    spelling: Spelling,
+    encoding: KeyEncoding,
     page: &Page<Global>,
     logged: Logged,
 ) -> Result<Image, AllocError>
     requires few { page_depth page.now < 2 ^ 31 }
-    requires sized { AllByRecursion IsSized (lacking spelling (Some page.now) (log_state logged)) }
+    requires sized { AllByRecursion IsSized (lacking encoding (Some page.now) (log_state logged)) }
     ensures { IfOk result
-        (λ image. AreWritten pid (lacking spelling (Some page.now) (log_state logged)) [] image) }
+        (λ image. AreWritten pid (lacking encoding (Some page.now) (log_state logged)) [] image) }
 {
     if let Some(chain) = page.as_leaf() {
-        return leaf_image(alloc, pid, spelling, page.low(), chain, logged);
+        return leaf_image(alloc, pid, encoding, page.low(), chain, logged);
     }
     match page.as_index() {
-        Some(chain) => index_image(alloc, pid, spelling, page.low(), chain, logged),
+        Some(chain) => index_image(alloc, pid, encoding, page.low(), chain, logged),
         None => unreachable!(),
     }
 }
@@ -185,22 +185,22 @@ fn page_image(
 fn leaf_image(
     alloc: Global,
     pid: Pid,
-    spelling: Spelling,
+    encoding: KeyEncoding,
     low: &[u8],
-    chain: &LateChain<Value<Global>, Global>,
+    chain: &LazyChain<Value<Global>, Global>,
     logged: Logged,
 ) -> Result<Image, AllocError>
     requires few { depth_of (seen chain.now) < 2 ^ 31 }
     requires sized { AllByRecursion IsSized
-        (lacking_by (log_state logged) (FullLeaf spelling low.now (seen chain.now).base)
+        (lacking_by (log_state logged) (FullLeaf encoding low.now (seen chain.now).base)
         (map DeltaLeaf (reverse (seen chain.now).runs))) }
     ensures { IfOk result (λ image. AreWritten pid
-        (lacking_by (log_state logged) (FullLeaf spelling low.now (seen chain.now).base)
+        (lacking_by (log_state logged) (FullLeaf encoding low.now (seen chain.now).base)
         (map DeltaLeaf (reverse (seen chain.now).runs))) [] image) }
 {
     match logged {
-        Logged::Upto(kept) => newer_image(alloc, pid, &chain.open_lent(), kept),
-        _ => whole_leaf(alloc, pid, spelling, low, chain),
+        Logged::Upto(kept) => newer_image(alloc, pid, &chain.unmerged_runs(), kept),
+        _ => whole_leaf(alloc, pid, encoding, low, chain),
     }
 }
 
@@ -208,43 +208,43 @@ fn leaf_image(
 fn whole_leaf(
     alloc: Global,
     pid: Pid,
-    spelling: Spelling,
+    encoding: KeyEncoding,
     low: &[u8],
-    chain: &LateChain<Value<Global>, Global>,
+    chain: &LazyChain<Value<Global>, Global>,
 ) -> Result<Image, AllocError>
     requires few { depth_of (seen chain.now) < 2 ^ 31 }
-    requires base { IsSized (FullLeaf spelling low.now (seen chain.now).base) }
+    requires base { IsSized (FullLeaf encoding low.now (seen chain.now).base) }
     requires runs { AllByRecursion IsSized (map DeltaLeaf (reverse (seen chain.now).runs)) }
-    ensures { IfOk result (λ image. AreWritten pid (FullLeaf spelling low.now (seen chain.now).base
+    ensures { IfOk result (λ image. AreWritten pid (FullLeaf encoding low.now (seen chain.now).base
         ∷ map DeltaLeaf (reverse (seen chain.now).runs)) [] image) }
 {
-    let runs = chain.open_lent();
-    if chain.settled() == 0 {
-        return whole_image(alloc, pid, spelling, low, chain.whole().base(), &runs);
+    let runs = chain.unmerged_runs();
+    if chain.merged_runs() == 0 {
+        return whole_image(alloc, pid, encoding, low, chain.whole().base(), &runs);
     }
     let base = chain.base_copy(alloc)?;
-    whole_image(alloc, pid, spelling, low, &base, &runs)
+    whole_image(alloc, pid, encoding, low, &base, &runs)
 }
 
 fn index_image(
     alloc: Global,
     pid: Pid,
-    spelling: Spelling,
+    encoding: KeyEncoding,
     low: &[u8],
     chain: &Chain<Pid, Global>,
     logged: Logged,
 ) -> Result<Image, AllocError>
     requires few { depth_of chain.now < 2 ^ 31 }
     requires sized { AllByRecursion IsSized (lacking_by (log_state logged)
-        (FullIndex spelling low.now chain.now.base) (map DeltaIndex (reverse chain.now.runs))) }
+        (FullIndex encoding low.now chain.now.base) (map DeltaIndex (reverse chain.now.runs))) }
     ensures { IfOk result (λ image. AreWritten pid
-        (lacking_by (log_state logged) (FullIndex spelling low.now chain.now.base)
+        (lacking_by (log_state logged) (FullIndex encoding low.now chain.now.base)
         (map DeltaIndex (reverse chain.now.runs))) [] image) }
 {
     let runs = chain.lent();
     match logged {
         Logged::Upto(kept) => newer_image(alloc, pid, &runs, kept),
-        _ => whole_image(alloc, pid, spelling, low, chain.base(), &runs),
+        _ => whole_image(alloc, pid, encoding, low, chain.base(), &runs),
     }
 }
 
@@ -252,20 +252,20 @@ fn index_image(
 fn whole_image<V: Kind<Global>>(
     alloc: Global,
     pid: Pid,
-    spelling: Spelling,
+    encoding: KeyEncoding,
     low: &[u8],
     base: &Base<V, Global>,
     lists: &ChainRef<'_, V, Global>,
 ) -> Result<Image, AllocError>
     requires few { depth_of lists.now < 2 ^ 31 }
-    requires base { IsSized (V.full spelling low.now base.now) }
+    requires base { IsSized (V.full encoding low.now base.now) }
     requires runs { AllByRecursion IsSized (map V.delta (reverse lists.now.runs)) }
     ensures { IfOk result (λ image. AreWritten pid
-        (V.full spelling low.now base.now ∷ map V.delta (reverse lists.now.runs)) [] image) }
+        (V.full encoding low.now base.now ∷ map V.delta (reverse lists.now.runs)) [] image) }
 {
     let depth = lists.depth() as usize;
     let mut image = Image::with_capacity(alloc, depth + 1)?;
-    image.push_full(pid, spelling, low, base)?;
+    image.push_full(pid, encoding, low, base)?;
     push_runs(&mut image, pid, lists, 0)?;
     Ok(image)
 }

@@ -14,7 +14,7 @@ ghost use Rattle.mapping.specs.Tree.{Tree};
 ghost use Rattle.frame_codec.specs.declared.format.Format.{Format};
 ghost use Rattle.frame_codec.specs.Frame.{Frame, bytes_of, is_frame};
 ghost use Rattle.flush_log.specs.Commit.{AreWithin, IsBesideSpans};
-ghost use Rattle.flush_log.specs.FlushText.{flush_text, upgrade_text, outdated, flushed};
+ghost use Rattle.flush_log.specs.FlushText.{flush_frames, upgrade_frames, outdated, flushed};
 ghost use Rattle.flush_log.specs.Layout.{placed, tail_after, found_in_text, is_full_for_flush, is_full_for_clean, spans, with_spans};
 ghost use Rattle.flush_log.specs.Overlay.{AgreeAt};
 ghost use Rattle.flush_log.specs.Reading.{Found, all_in, is_at_tail, is_padding, read_segment, log_between};
@@ -166,7 +166,7 @@ pub fn a_log_of_version_one_is_read_as_one_of_version_two()
 /// The frames of an upgrade are those of a flush of version 2, as if the log had an outdated page for each page id of
 /// which it has a page, and the resulting tree is the same. There is always something to write.
 pub fn an_upgrade_is_a_flush_of_outdated_pages()
-    ensures text { (t : Tree) → AreLogsTrue t → upgrade_text t ≡ flush_text Two (outdated t) }
+    ensures text { (t : Tree) → AreLogsTrue t → upgrade_frames t ≡ flush_frames Two (outdated t) }
     ensures left { (t : Tree) → flushed (outdated t) ≡ flushed t }
-    ensures some { (s : Settings) (t : Tree) → IsProper s t → upgrade_text t ≢ [] }
+    ensures some { (s : Settings) (t : Tree) → IsProper s t → upgrade_frames t ≢ [] }
 {}

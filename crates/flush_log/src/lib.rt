@@ -42,4 +42,4 @@ pub use crate::new_store::{first_slot, new_bytes};
 pub use crate::segments::{disk_size, last_segment, place_of_segment, segment_header};
 pub use crate::settings_block::read_settings;
 pub use crate::slot::{LogEnds, SLOT_SIZE, Slot, newer, read_slot, slot_in};
-pub use crate::text::{Text, images, is_all_written};
+pub use crate::text::{CommitKind, images, is_all_written};

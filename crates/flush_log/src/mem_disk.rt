@@ -4,7 +4,7 @@ ghost use Rattle.std.proofs.Common.{inl, ⊎_elim, sym, ap, ◌∙◌, arith, le
 ghost use Rattle.std.proofs.Props.{props};
 ghost use Rattle.std.proofs.lemmas.List.{length-replicate};
 ghost use Rattle.flush_log.specs.Overlay.{overlay};
-ghost use Rattle.flush_log.specs.Disk.{IsSettled, Torn, Kept, Same, Leaves, CountsFailure};
+ghost use Rattle.flush_log.specs.Disk.{IsSynced, Torn, Kept, Same, Leaves, CountsFailure};
 ghost use Rattle.flush_log.specs.Commit.{seen_after};
 ghost use Rattle.flush_log.specs.Commit.Call.{Write, Sync};
 ghost use Rattle.flush_log.specs.Record.{view_of, AreCalls, call_of, calls_of, with_zeros};
@@ -45,7 +45,7 @@ impl<A: Allocator + Copy> MemDisk<A> {
         ensures size { IfOk result (λ disk. (⟦<MemDisk<A> as Disk>⟧.view disk).size ≡ len) }
         ensures seen { IfOk result
             (λ disk. (⟦<MemDisk<A> as Disk>⟧.view disk).seen ≡ replicate len 0) }
-        ensures settled { IfOk result (λ disk. IsSettled (⟦<MemDisk<A> as Disk>⟧.view disk)) }
+        ensures is_synced { IfOk result (λ disk. IsSynced (⟦<MemDisk<A> as Disk>⟧.view disk)) }
         ensures failures { IfOk result (λ disk. ⟦<MemDisk<A> as Disk>⟧.failed disk ≡ 0) }
     {
         Ok(MemDisk {
@@ -148,7 +148,7 @@ impl<A: Allocator + Copy> MemDisk<A> {
             (Same (⟦<MemDisk<A> as Disk>⟧.view self.old) (⟦<MemDisk<A> as Disk>⟧.view self.new)) }
         ensures failed { CountsFailure result
             (⟦<MemDisk<A> as Disk>⟧.failed self.old) (⟦<MemDisk<A> as Disk>⟧.failed self.new) }
-        ensures settled { OnOk result (IsSettled (⟦<MemDisk<A> as Disk>⟧.view self.new)) }
+        ensures is_synced { OnOk result (IsSynced (⟦<MemDisk<A> as Disk>⟧.view self.new)) }
         ensures seen { (⟦<MemDisk<A> as Disk>⟧.view self.new).seen
             ≡ (⟦<MemDisk<A> as Disk>⟧.view self.old).seen }
         ensures crash { Leaves (⟦<MemDisk<A> as Disk>⟧.view self.old)

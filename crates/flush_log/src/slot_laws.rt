@@ -41,7 +41,7 @@ pub fn a_slot_is_read_back()
 {}
 
 /// Two well-formed slots with the same bytes are equal.
-pub fn a_slot_has_one_spelling()
+pub fn a_slot_has_one_encoding()
     ensures { (s : Settings) (m n : ℕ) (t u : Slot) → first_bad_field s ≡ None →
         is_slot s m t ≡ true → is_slot s n u ≡ true → slot_bytes t ≡ slot_bytes u → t ≡ u }
 {}

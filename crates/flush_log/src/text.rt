@@ -8,17 +8,17 @@ ghost use Rattle.mapping.specs.LogState.{log_state};
 ghost use Rattle.mapping.specs.FreshPids.{is_among};
 ghost use Rattle.mapping.specs.Proper.{AreRisingPids, IsProper};
 ghost use Rattle.mapping.specs.TreeInMemory.{AreAllHome, tree_of};
-ghost use Rattle.frame_codec.specs.declared.format.Spelling as spellings;
-ghost use Rattle.frame_codec.specs.Sized.{HasWords};
-ghost use Rattle.flush_log.specs.FlushText.{spelling_of, lacking, version_with, taken, pid_text, text_of, flush_text, HasFrames};
-ghost use Rattle.flush_log.specs.declared.text.Text.TheVariants as texts;
+ghost use Rattle.frame_codec.specs.declared.format.KeyEncoding as encodings;
+ghost use Rattle.frame_codec.specs.Sized.{FitsU64};
+ghost use Rattle.flush_log.specs.FlushText.{encoding_of, lacking, version_with, taken, pid_frames, commit_frames, flush_frames, HasFrames};
+ghost use Rattle.flush_log.specs.declared.text.CommitKind.TheVariants as texts;
 ghost use Rattle.flush_log.specs.ImageWork.{job_held, held_of_pid, held_text, image_made, HasFewRuns, CanBeWritten, IsDue, IsOfStore};
 ghost use Rattle.flush_log.specs.Images.{AreOfText};
 
 use crate::image::Image;
 use crate::image_work::{ImageDone, ImageJob, ImageWork};
 use crew::{Crew, NoGate, run_round};
-use frame_codec::Spelling;
+use frame_codec::KeyEncoding;
 use index_page::Page;
 use keys::{Pid, Version};
 use mapping::{Logged, Tree, depth};
@@ -27,7 +27,7 @@ use std::thread::Threads;
 
 /// Which pages a commit writes, and how.
 #[derive(Clone, Copy, Debug, PartialEq, Eq)]
-pub enum Text {
+pub enum CommitKind {
     /// A flush of a store with a log of this version: whatever the log lacks.
     Flush(Version),
     /// An upgrade: all pages, for a log of the second version.
@@ -35,31 +35,31 @@ pub enum Text {
 }
 
 // The version of the log after this commit: an upgrade leads to the second one.
-fn version_with(text: Text) -> Version
+fn version_with(text: CommitKind) -> Version
     ensures { result ≡ version_with text }
 {
     match text {
-        Text::Flush(version) => version,
-        Text::Upgrade => Version::Two,
+        CommitKind::Flush(version) => version,
+        CommitKind::Upgrade => Version::Two,
     }
 }
 
 // The key encoding for bases in a log of this version.
-fn spelling_of(version: Version) -> Spelling
-    ensures { result ≡ spelling_of version }
+fn encoding_of(version: Version) -> KeyEncoding
+    ensures { result ≡ encoding_of version }
 {
     match version {
-        Version::One => Spelling::Whole,
-        Version::Two => Spelling::Shared,
+        Version::One => KeyEncoding::Whole,
+        Version::Two => KeyEncoding::PrefixCompressed,
     }
 }
 
 // The log state of a page id, as this kind of commit treats it.
-fn taken(text: Text, logged: Logged) -> Logged
+fn taken(text: CommitKind, logged: Logged) -> Logged
     ensures { log_state result ≡ taken text (log_state logged) }
 {
     match (text, logged) {
-        (Text::Upgrade, Logged::Upto(_)) => Logged::Old,
+        (CommitKind::Upgrade, Logged::Upto(_)) => Logged::Old,
         _ => logged,
     }
 }
@@ -72,12 +72,12 @@ pub fn images(
     crew: Crew,
     alloc: Global,
     tree: &Tree<Global>,
-    text: Text,
+    text: CommitKind,
 ) -> Result<Vec<Image>, AllocError>
     requires home { AreAllHome tree.now }
     requires proper { IsOfStore (tree_of tree.now) }
     ensures text { IfOk result
-        (λ images. AreOfText images.items (text_of text (tree_of tree.now))) }
+        (λ images. AreOfText images.items (commit_frames text (tree_of tree.now))) }
     ensures some { IfOk result (λ images. AllByRecursion (λ image. image ≢ []) images.items) }
     ensures frames { IfOk result (λ _. (s : limits.Settings) → IsProper s (tree_of tree.now) →
         HasFrames s text (tree_of tree.now)) }
@@ -95,7 +95,7 @@ pub fn is_all_written(tree: &Tree<Global>) -> bool
     requires home { AreAllHome tree.now }
     requires proper { IsOfStore (tree_of tree.now) }
     ensures { (version : versions.Version) →
-        IsTrue result ↔ (flush_text version (tree_of tree.now) ≡ []) }
+        IsTrue result ↔ (flush_frames version (tree_of tree.now) ≡ []) }
 {
     match tree.due_pids() {
         Some(pids) => are_written(tree, pids),
@@ -109,10 +109,10 @@ fn are_written(tree: &Tree<Global>, pids: &[u64]) -> bool
     requires proper { IsOfStore (tree_of tree.now) }
     ensures { (version : versions.Version) →
         IsTrue result
-        ↔ (flat_map (pid_text (texts.Flush version) (tree_of tree.now)) pids.now ≡ []) }
+        ↔ (flat_map (pid_frames (texts.Flush version) (tree_of tree.now)) pids.now ≡ []) }
 {
     for pid in pids {
-        let job = job_of(tree, *pid, Text::Flush(Version::One));
+        let job = job_of(tree, *pid, CommitKind::Flush(Version::One));
         if !is_written(job.page, job.logged) {
             return false;
         }
@@ -125,10 +125,10 @@ fn are_all_written(tree: &Tree<Global>) -> bool
     requires home { AreAllHome tree.now }
     requires proper { IsOfStore (tree_of tree.now) }
     ensures { (version : versions.Version) →
-        IsTrue result ↔ (flush_text version (tree_of tree.now) ≡ []) }
+        IsTrue result ↔ (flush_frames version (tree_of tree.now) ≡ []) }
 {
     for pid in tree.known_pids() {
-        let job = job_of(tree, pid, Text::Flush(Version::One));
+        let job = job_of(tree, pid, CommitKind::Flush(Version::One));
         if !is_written(job.page, job.logged) {
             return false;
         }
@@ -140,16 +140,16 @@ fn are_all_written(tree: &Tree<Global>) -> bool
 fn due_jobs<'a>(
     alloc: Global,
     tree: &'a Tree<Global>,
-    text: Text,
+    text: CommitKind,
 ) -> Result<Vec<ImageJob<'a>>, AllocError>
     requires home { AreAllHome tree.now }
     requires proper { IsOfStore (tree_of tree.now) }
     ensures text { IfOk result
-        (λ jobs. flat_map held_text (map job_held jobs.items) ≡ text_of text (tree_of tree.now)) }
+        (λ jobs. flat_map held_text (map job_held jobs.items) ≡ commit_frames text (tree_of tree.now)) }
     ensures due { IfOk result (λ jobs. AllByRecursion IsDue (map job_held jobs.items)) }
 {
     match (text, tree.due_pids()) {
-        (Text::Flush(_), Some(due)) => {
+        (CommitKind::Flush(_), Some(due)) => {
             let pids = rising(alloc, due)?;
             jobs_of(alloc, tree, text, &pids)
         }
@@ -174,13 +174,13 @@ fn rising(alloc: Global, numbers: &[u64]) -> Result<Vec<u64>, AllocError>
 fn jobs_of<'a>(
     alloc: Global,
     tree: &'a Tree<Global>,
-    text: Text,
+    text: CommitKind,
     pids: &[u64],
 ) -> Result<Vec<ImageJob<'a>>, AllocError>
     requires home { AreAllHome tree.now }
     requires writable { (pid : ℕ) → CanBeWritten (held_of_pid text (tree_of tree.now) pid) }
     ensures text { IfOk result (λ jobs. flat_map held_text (map job_held jobs.items)
-        ≡ flat_map (pid_text text (tree_of tree.now)) pids.now) }
+        ≡ flat_map (pid_frames text (tree_of tree.now)) pids.now) }
     ensures due { IfOk result (λ jobs. AllByRecursion IsDue (map job_held jobs.items)) }
 {
     let mut jobs = Vec::new(alloc);
@@ -198,12 +198,12 @@ fn jobs_of<'a>(
 fn all_jobs<'a>(
     alloc: Global,
     tree: &'a Tree<Global>,
-    text: Text,
+    text: CommitKind,
 ) -> Result<Vec<ImageJob<'a>>, AllocError>
     requires home { AreAllHome tree.now }
     requires writable { (pid : ℕ) → CanBeWritten (held_of_pid text (tree_of tree.now) pid) }
     ensures text { IfOk result
-        (λ jobs. flat_map held_text (map job_held jobs.items) ≡ text_of text (tree_of tree.now)) }
+        (λ jobs. flat_map held_text (map job_held jobs.items) ≡ commit_frames text (tree_of tree.now)) }
     ensures due { IfOk result (λ jobs. AllByRecursion IsDue (map job_held jobs.items)) }
 {
     let mut jobs = Vec::new(alloc);
@@ -220,7 +220,7 @@ fn all_jobs<'a>(
 fn images_of<'a>(alloc: Global, dones: Vec<ImageDone<'a>>) -> Result<Vec<Image>, AllocError>
     ensures images { IfOk result (λ images. images.items ≡ map image_made dones.entry.items) }
     ensures words { IfOk result
-        (λ _. AllByRecursion HasWords (flat_map held_text dones.entry.items)) }
+        (λ _. AllByRecursion FitsU64 (flat_map held_text dones.entry.items)) }
 {
     let mut images = Vec::with_capacity(alloc, dones.len())?;
     for done in dones {
@@ -230,14 +230,14 @@ fn images_of<'a>(alloc: Global, dones: Vec<ImageDone<'a>>) -> Result<Vec<Image>,
 }
 
 // The job for a page id: its page and its log state.
-fn job_of<'a>(tree: &'a Tree<Global>, pid: u64, text: Text) -> ImageJob<'a>
+fn job_of<'a>(tree: &'a Tree<Global>, pid: u64, text: CommitKind) -> ImageJob<'a>
     requires { AreAllHome tree.now }
     ensures { job_held result ≡ held_of_pid text (tree_of tree.now) pid }
 {
     let pid = Pid(pid);
     ImageJob {
         pid,
-        spelling: spelling_of(version_with(text)),
+        encoding: encoding_of(version_with(text)),
         page: tree.page(pid),
         logged: taken(text, tree.logged(pid)),
     }
@@ -246,8 +246,8 @@ fn job_of<'a>(tree: &'a Tree<Global>, pid: u64, text: Text) -> ImageJob<'a>
 // Whether the log contains the whole page, or, if there is no page, nothing that must be marked as freed.
 fn is_written(page: Option<&Page<Global>>, logged: Logged) -> bool
     requires { HasFewRuns (option_copied page) }
-    ensures { (spelling : spellings.Spelling) →
-        IsTrue result ↔ (lacking spelling (option_copied page.entry) (log_state logged) ≡ []) }
+    ensures { (encoding : encodings.KeyEncoding) →
+        IsTrue result ↔ (lacking encoding (option_copied page.entry) (log_state logged) ≡ []) }
 {
     match page {
         None => logged != Logged::Old,

@@ -187,7 +187,7 @@ fn begin_part(settings: &Settings, tail: u64, buffer: &mut [u8]) -> Part
 /// call no further call is made.
 ///
 /// A crash during the calls leaves the old contents, except for any bytes in the ranges that are written.
-pub fn write_text<D: Disk>(
+pub fn write_frames<D: Disk>(
     disk: &mut D,
     settings: &Settings,
     tail: u64,

@@ -1,7 +1,7 @@
 -- Byte row 11: a leaf that was replaced by a 3.
 use Rattle.std.specs.Prelude.{[], ◌∷◌, codes}
 use Rattle.std.proofs.Common.{refl}
-use Rattle.frame_codec.specs.declared.format.Spelling.TheVariants.{Whole}
+use Rattle.frame_codec.specs.declared.format.KeyEncoding.TheVariants.{Whole}
 use Rattle.frame_codec.specs.Frame.Content.{FullLeaf}
 use Rattle.frame_codec.proofs.RowForms.{IsSpelled}
 

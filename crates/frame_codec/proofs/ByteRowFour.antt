@@ -1,7 +1,7 @@
 -- Byte row 4: the log of a new store, one empty leaf with the pid 0.
 use Rattle.std.specs.Prelude.{[]}
 use Rattle.std.proofs.Common.{refl}
-use Rattle.frame_codec.specs.declared.format.Spelling.TheVariants.{Whole}
+use Rattle.frame_codec.specs.declared.format.KeyEncoding.TheVariants.{Whole}
 use Rattle.frame_codec.specs.Frame.Content.{FullLeaf}
 use Rattle.frame_codec.proofs.RowForms.{IsSpelled}
 

@@ -1,7 +1,7 @@
 -- Byte row 7: two leaves and the index page above them.
 use Rattle.std.specs.Prelude.{[], ◌∷◌, codes}
 use Rattle.std.proofs.Common.{refl}
-use Rattle.frame_codec.specs.declared.format.Spelling.TheVariants.{Whole}
+use Rattle.frame_codec.specs.declared.format.KeyEncoding.TheVariants.{Whole}
 use Rattle.frame_codec.specs.Frame.Content.{FullLeaf, FullIndex}
 use Rattle.frame_codec.proofs.RowForms.{IsSpelled}
 

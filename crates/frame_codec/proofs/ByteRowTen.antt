@@ -1,7 +1,7 @@
 -- Byte row 10: a leaf of three, and a run of an index page that deletes d. Its frame that frees pid 1 is the first of byte row 8.
 use Rattle.std.specs.Prelude.{[], ◌∷◌, None, codes}
 use Rattle.std.proofs.Common.{refl}
-use Rattle.frame_codec.specs.declared.format.Spelling.TheVariants.{Whole}
+use Rattle.frame_codec.specs.declared.format.KeyEncoding.TheVariants.{Whole}
 use Rattle.frame_codec.specs.Frame.Content.{FullLeaf, DeltaIndex}
 use Rattle.frame_codec.proofs.RowForms.{IsSpelled}
 

@@ -12,8 +12,8 @@ use Rattle.keys.proofs.CellLemmas.{gave, nothing_read, same_reading, read_as-gav
 use Rattle.delta_chain.specs.Building.{goes_last}
 use Rattle.delta_chain.proofs.Rising.{goes_last-rising}
 use Rattle.index_page.specs.Rules.{do_rise, of_cell}
-use Rattle.frame_codec.specs.declared.format.Spelling.{Spelling}
-use Rattle.frame_codec.specs.declared.format.Spelling.TheVariants.{Whole, Shared}
+use Rattle.frame_codec.specs.declared.format.KeyEncoding.{KeyEncoding}
+use Rattle.frame_codec.specs.declared.format.KeyEncoding.TheVariants.{Whole, PrefixCompressed}
 use Rattle.frame_codec.specs.Codecs.{both, read_each, flagged, sharing}
 use Rattle.frame_codec.specs.Frame.{read_base, delta, is_key, are_entries, is_run}
 use Rattle.frame_codec.proofs.WithinLemmas.{decides-rising}
@@ -65,43 +65,43 @@ module _ {X : Type 0} (ok : List X → Bool) where
 -- ---- the entries of a base, or of a run
 
 -- a key, by the one before it
-abbrev pub keyed : Spelling → List ℕ → Codec (List ℕ)
+abbrev pub keyed : KeyEncoding → List ℕ → Codec (List ℕ)
 keyed Whole before = counted
-keyed Shared before = sharing before
+keyed PrefixCompressed before = sharing before
 
 -- an entry, by the key before it
-abbrev pub next_entry : {X : Type 0} → Spelling → Codec X → List ℕ → Codec (List ℕ × X)
-next_entry spelling cell before = both (keyed spelling before) cell
+abbrev pub next_entry : {X : Type 0} → KeyEncoding → Codec X → List ℕ → Codec (List ℕ × X)
+next_entry encoding cell before = both (keyed encoding before) cell
 
-module _ {X : Type 0} (spelling : Spelling) (cell : Codec X) where
-  base-none : (before : List ℕ) (bs : List ℕ) → read_base spelling cell before 0 bs ≡ gave [] bs
-  base-none before bs = of spelling
+module _ {X : Type 0} (encoding : KeyEncoding) (cell : Codec X) where
+  base-none : (before : List ℕ) (bs : List ℕ) → read_base encoding cell before 0 bs ≡ gave [] bs
+  base-none before bs = of encoding
     where
-      of : (spelling : Spelling) → read_base spelling cell before 0 bs ≡ gave [] bs
+      of : (encoding : KeyEncoding) → read_base encoding cell before 0 bs ≡ gave [] bs
       of Whole = refl
-      of Shared = refl
+      of PrefixCompressed = refl
 
-  base-more : (before : List ℕ) (n : ℕ) (bs : List ℕ) → read_base spelling cell before (suc n) bs
-      ≡ read_on ((next_entry spelling cell before).read bs) (λ e rest. read_as (λ es. e ∷ es) (read_base spelling cell e.0 n rest))
-  base-more before n bs = of spelling
+  base-more : (before : List ℕ) (n : ℕ) (bs : List ℕ) → read_base encoding cell before (suc n) bs
+      ≡ read_on ((next_entry encoding cell before).read bs) (λ e rest. read_as (λ es. e ∷ es) (read_base encoding cell e.0 n rest))
+  base-more before n bs = of encoding
     where
-      of : (spelling : Spelling) → read_base spelling cell before (suc n) bs
-          ≡ read_on ((next_entry spelling cell before).read bs) (λ e rest. read_as (λ es. e ∷ es) (read_base spelling cell e.0 n rest))
+      of : (encoding : KeyEncoding) → read_base encoding cell before (suc n) bs
+          ≡ read_on ((next_entry encoding cell before).read bs) (λ e rest. read_as (λ es. e ∷ es) (read_base encoding cell e.0 n rest))
       of Whole = refl
-      of Shared = refl
+      of PrefixCompressed = refl
 
   -- as many are read as were asked for
-  more_long : (n : ℕ) → ((before : List ℕ) (bs : List ℕ) (es : List (List ℕ × X)) (rest : List ℕ) → read_base spelling cell before n bs ≡ gave es rest → length es ≡ n)
+  more_long : (n : ℕ) → ((before : List ℕ) (bs : List ℕ) (es : List (List ℕ × X)) (rest : List ℕ) → read_base encoding cell before n bs ≡ gave es rest → length es ≡ n)
       → (o : Option ((List ℕ × X) × List ℕ)) (es : List (List ℕ × X)) (rest : List ℕ)
-      → read_on o (λ e following. read_as (λ ds. e ∷ ds) (read_base spelling cell e.0 n following)) ≡ gave es rest → length es ≡ suc n
+      → read_on o (λ e following. read_as (λ ds. e ∷ ds) (read_base encoding cell e.0 n following)) ≡ gave es rest → length es ≡ suc n
   more_long n fewer None es rest h = absurd (nothing_read _ h)
   more_long n fewer (Some p) es rest h =
-      let (ds, read, is) = read_as-gave (λ ds. p.0 ∷ ds) (read_base spelling cell p.0.0 n p.1) es rest h in
+      let (ds, read, is) = read_as-gave (λ ds. p.0 ∷ ds) (read_base encoding cell p.0.0 n p.1) es rest h in
       ap length (sym is) ∙ ap suc (fewer p.0.0 p.1 ds rest read)
 
-  pub base-long : (n : ℕ) (before : List ℕ) (bs : List ℕ) (es : List (List ℕ × X)) (rest : List ℕ) → read_base spelling cell before n bs ≡ gave es rest → length es ≡ n
+  pub base-long : (n : ℕ) (before : List ℕ) (bs : List ℕ) (es : List (List ℕ × X)) (rest : List ℕ) → read_base encoding cell before n bs ≡ gave es rest → length es ≡ n
   base-long zero before bs es rest h = let e = (same_reading [] es bs rest (sym (base-none before bs) ∙ h)).0 in ap length (sym e)
-  base-long (suc n) before bs es rest h = more_long n (base-long n) ((next_entry spelling cell before).read bs) es rest (sym (base-more before n bs) ∙ h)
+  base-long (suc n) before bs es rest h = more_long n (base-long n) ((next_entry encoding cell before).read bs) es rest (sym (base-more before n bs) ∙ h)
 
 -- two things that were read, one after the other
 pub both-passed : {X Y : Type 0} (a : X → Bool) (b : Y → Bool) (c : Codec X) (d : Codec Y) (bs : List ℕ) (x : X) (following : List ℕ) (y : Y) (rest : List ℕ)
@@ -152,7 +152,7 @@ pub last_key-push : {X : Type 0} (low : List ℕ) (es : List (List ℕ × X)) (k
 last_key-push low [] k v = refl
 last_key-push low (e ∷ es) k v = last_key-push e.0 es k v
 
-module _ {X : Type 0} (s : Settings) (short : X → Bool) (spelling : Spelling) (cell : Codec X) where
+module _ {X : Type 0} (s : Settings) (short : X → Bool) (encoding : KeyEncoding) (cell : Codec X) where
   -- whether an entry is within the settings
   abbrev pub is_entry : List ℕ × X → Bool
   is_entry e = is_key s e.0 && short e.1
@@ -179,13 +179,13 @@ module _ {X : Type 0} (s : Settings) (short : X → Bool) (spelling : Spelling) 
   module _ (low : List ℕ) (count : ℕ) (start : List ℕ) where
     -- what is read of all, if as many are read from these bytes
     abbrev pub read_entries : Option (List (List ℕ × X) × List ℕ)
-    read_entries = read_where (are_entries s short) (read_base spelling cell low count start)
+    read_entries = read_where (are_entries s short) (read_base encoding cell low count start)
 
     -- the first `at` entries are decoded and within the settings; the rest is encoded in these bytes
     pub record IsReadUpTo (at : ℕ) (built : List (List ℕ × X)) (now : List ℕ) : Type 0 where
       pub left : ℕ
       pub all : at + left ≡ count
-      pub whole : read_entries ≡ joined_with (are_entries s short) built (read_base spelling cell (last_key low built) left now)
+      pub whole : read_entries ≡ joined_with (are_entries s short) built (read_base encoding cell (last_key low built) left now)
       pub tested : list_all is_entry built ≡ true
       pub long : length built ≡ at
 
@@ -193,7 +193,7 @@ module _ {X : Type 0} (s : Settings) (short : X → Bool) (spelling : Spelling) 
     read-none = record {
       left = count;
       all = omega arith;
-      whole = sym (joined-start (are_entries s short) (read_base spelling cell low count start));
+      whole = sym (joined-start (are_entries s short) (read_base encoding cell low count start));
       tested = refl;
       long = refl;
     }
@@ -212,18 +212,18 @@ module _ {X : Type 0} (s : Settings) (short : X → Bool) (spelling : Spelling) 
           of (suc n) e = (n, refl)
 
       abbrev whole_of : ℕ → Option (List (List ℕ × X) × List ℕ)
-      whole_of n = joined_with (are_entries s short) built (read_base spelling cell before n now)
+      whole_of n = joined_with (are_entries s short) built (read_base encoding cell before n now)
 
       -- what is read where the next one is
       abbrev next_read : Option ((List ℕ × X) × List ℕ)
-      next_read = (next_entry spelling cell before).read now
+      next_read = (next_entry encoding cell before).read now
 
       -- and after an entry
       abbrev read_after : ℕ → List ℕ × X → List ℕ → Option (List (List ℕ × X) × List ℕ)
-      read_after n e rest = read_base spelling cell e.0 n rest
+      read_after n e rest = read_base encoding cell e.0 n rest
 
       next_is : (n : ℕ) → up.left ≡ suc n → read_entries ≡ joined_with (are_entries s short) built (all_of (are_entries s short) built next_read (read_after n) next_read)
-      next_is n is = up.whole ∙ ap whole_of is ∙ ap (joined_with (are_entries s short) built) (base-more spelling cell before n now)
+      next_is n is = up.whole ∙ ap whole_of is ∙ ap (joined_with (are_entries s short) built) (base-more encoding cell before n now)
 
       pub read-next : (k : List ℕ) (v : X) (following : List ℕ) → at < count → read_where is_entry next_read ≡ Some ((k, v), following)
           → IsReadUpTo (at + 1) (built ++ (k, v) ∷ []) following
@@ -239,7 +239,7 @@ module _ {X : Type 0} (s : Settings) (short : X → Bool) (spelling : Spelling) 
             whole =
                 next_is n is
                 ∙ joined-next (are_entries s short) built next_read (read_after n) (k, v) following read
-                ∙ ap (λ (j : List ℕ). joined_with (are_entries s short) (built ++ (k, v) ∷ []) (read_base spelling cell j n following)) (sym (last_key-push low built k v));
+                ∙ ap (λ (j : List ℕ). joined_with (are_entries s short) (built ++ (k, v) ∷ []) (read_base encoding cell j n following)) (sym (last_key-push low built k v));
             tested = all-push is_entry built (k, v) up.tested passed;
             long = omega arith;
           }
@@ -277,15 +277,15 @@ module _ {X : Type 0} (s : Settings) (short : X → Bool) (spelling : Spelling) 
           let at_most : length built ≤ s.fan = omega arith in
           let passed : are_entries s short built ≡ true =
           both_true (both_true (le-leb (length built) s.fan at_most) ((decides-rising built).1 rising)) up.tested in
-          up.whole ∙ ap whole_of none ∙ rw (base-none spelling cell before now, append-nil built, passed) refl
+          up.whole ∙ ap whole_of none ∙ rw (base-none encoding cell before now, append-nil built, passed) refl
 
     pub read-many : s.fan < count → read_entries ≡ None
-    read-many many = of (read_base spelling cell low count start) refl
+    read-many many = of (read_base encoding cell low count start) refl
       where
-        of : (o : Option (List (List ℕ × X) × List ℕ)) → read_base spelling cell low count start ≡ o → read_where (are_entries s short) o ≡ None
+        of : (o : Option (List (List ℕ × X) × List ℕ)) → read_base encoding cell low count start ≡ o → read_where (are_entries s short) o ≡ None
         of None is = refl
         of (Some p) is =
-            let long = base-long spelling cell count low start p.0 p.1 is in
+            let long = base-long encoding cell count low start p.0 p.1 is in
             let over : nat_le (length p.0) s.fan ≡ false = not_true (nat_le (length p.0) s.fan) (λ h. let few = leb-true (length p.0) s.fan h in absurd (omega arith)) in
             let failed : are_entries s short p.0 ≡ false =
             fails_first (nat_le (length p.0) s.fan && do_rise (keys_of p.0)) (list_all is_entry p.0) (fails_first (nat_le (length p.0) s.fan) (do_rise (keys_of p.0)) over) in

@@ -8,7 +8,7 @@ use Rattle.keys.proofs.CellLemmas.{gave, nothing_read, read_as-gave, read_where-
 use Rattle.frame_codec.specs.Frame.{Content, Frame, content_bytes, header, bytes_of, is_pid, is_allowed, is_frame}
 use Rattle.frame_codec.specs.Reading.{read_content, read_after, read_frame}
 use Rattle.frame_codec.proofs.EachLemmas.{not_true, fails_last}
-use Rattle.frame_codec.proofs.ReadLemmas.{header-spelled, content-spelled, frame-stands}
+use Rattle.frame_codec.proofs.ReadLemmas.{header-encoded, content-encoded, frame-stands}
 
 -- bytes are bytes, place by place
 pub bytes-fit : (bs : List ℕ) → ((i : ℕ) → Fits w8 (get_or bs i 0)) → AreBytes bs
@@ -61,9 +61,9 @@ module _ (g : Format) (bs : List ℕ) (kind len pid : ℕ) (body : List ℕ) (by
   content-found f rest h =
       let (c, found, is) = read_as-gave made (read_where (is_allowed g) (read_content kind body)) f rest h in
       let (read, allowed) = read_where-gave (is_allowed g) (read_content kind body) c rest found in
-      let spelled = header-spelled bs ((kind, len), pid) body bytes head in
-      let following : AreBytes body = bytes_after (header.spell ((kind, len), pid)) body (rw spelled at bytes) in
-      let stands = (content-spelled kind body following c rest read).1 in
+      let encoded = header-encoded bs ((kind, len), pid) body bytes head in
+      let following : AreBytes body = bytes_after (header.encode ((kind, len), pid)) body (rw encoded at bytes) in
+      let stands = (content-encoded kind body following c rest read).1 in
       record { content = c; is = is; read = read; allowed = allowed; long = ap length stands ∙ length-append (content_bytes c) rest }
 
   module _ (f : Frame) (rest : List ℕ) (found : IsContent f rest) where

@@ -9,9 +9,9 @@ use Rattle.keys.proofs.LimitLemmas.{checked}
 use Rattle.keys.proofs.CellLemmas.{gave, same_reading, number-back, counted-back, length-counted, pid-back}
 use Rattle.index_page.specs.Rules.{is_short_value, of_cell}
 use Rattle.frame_codec.specs.declared.format.Format.{Format}
-use Rattle.frame_codec.specs.declared.format.Spelling.{Spelling}
-use Rattle.frame_codec.specs.declared.format.Spelling.TheVariants.{Whole, Shared}
-use Rattle.frame_codec.specs.Codecs.{both, listed, spell_flag, flagged}
+use Rattle.frame_codec.specs.declared.format.KeyEncoding.{KeyEncoding}
+use Rattle.frame_codec.specs.declared.format.KeyEncoding.TheVariants.{Whole, PrefixCompressed}
+use Rattle.frame_codec.specs.Codecs.{both, listed, encode_flag, flagged}
 use Rattle.frame_codec.specs.Frame.{Content, Frame, based, full, delta, kind_of, content_bytes, header, bytes_of, is_pid, is_key, are_entries, is_full, is_run, is_content, is_readable, is_allowed, is_frame}
 use Rattle.frame_codec.specs.Frame.Content.{FullLeaf, DeltaLeaf, FullIndex, DeltaIndex, Free}
 use Rattle.frame_codec.specs.Reading.{read_content, read_after, read_any, read_frame}
@@ -34,14 +34,14 @@ in_limits s h = let all = checked s h in record { fan = all.fan; max_key = all.m
 -- a cell that passes the test is decoded again, and its encoding is no longer than this
 pub record Serves {V : Type 0} (most : ℕ) (test : V → Bool) (cell : Codec V) : Type 0 where
   pub back : (v : V) → test v ≡ true → IsReadBack cell v
-  pub short : (v : V) → test v ≡ true → length (cell.spell v) ≤ most
+  pub short : (v : V) → test v ≡ true → length (cell.encode v) ≤ most
 
-all_short : {X : Type 0} (c : Codec X) (xs : List X) → AllByRecursion (λ x. length (c.spell x) ≤ 1284) xs → length (flat_map c.spell xs) ≤ length xs * 1284
+all_short : {X : Type 0} (c : Codec X) (xs : List X) → AllByRecursion (λ x. length (c.encode x) ≤ 1284) xs → length (flat_map c.encode xs) ≤ length xs * 1284
 all_short c [] h = omega arith
 all_short c (x ∷ xs) h =
-    let one : length (c.spell x) ≤ 1284 = h.0 in
+    let one : length (c.encode x) ≤ 1284 = h.0 in
     let rest = all_short c xs h.1 in
-    let joined = length-append (c.spell x) (flat_map c.spell xs) in
+    let joined = length-append (c.encode x) (flat_map c.encode xs) in
     omega arith
 
 pub pid-is : (p : ℕ) → is_pid p ≡ true → p < 2 ^ 64
@@ -55,7 +55,7 @@ module _ {V : Type 0} (test : V → Bool) (cell : Codec V) (serves : Serves 1026
   flag-back None h = absent-back cell
   flag-back (Some v) h = flagged-back cell v (serves.back v h)
 
-  flag-short : (o : Option V) → of_cell test o ≡ true → length (spell_flag cell o) ≤ 1027
+  flag-short : (o : Option V) → of_cell test o ≡ true → length (encode_flag cell o) ≤ 1027
   flag-short None h = omega arith
   flag-short (Some v) h = let one = serves.short v h in omega arith
 
@@ -84,13 +84,13 @@ module _ (s : Settings) (limits : AreInLimits s) where
         let (key, value) = and_parts (is_key s e.0) (test e.1) h in
         both-back counted cell e (low-back e.0 key) (serves.back e.1 value)
 
-    entry-short : (e : List ℕ × V) → (is_key s e.0 && test e.1) ≡ true → length ((both counted cell).spell e) ≤ 1284
+    entry-short : (e : List ℕ × V) → (is_key s e.0 && test e.1) ≡ true → length ((both counted cell).encode e) ≤ 1284
     entry-short e h =
         let (key, value) = and_parts (is_key s e.0) (test e.1) h in
         let short = short_key e.0 key in
         let cell_short = serves.short e.1 value in
         let key_long = length-counted e.0 in
-        let joined = length-append (counted.spell e.0) (cell.spell e.1) in
+        let joined = length-append (counted.encode e.0) (cell.encode e.1) in
         omega arith
 
     few_entries : (es : List (List ℕ × V)) → are_entries s test es ≡ true → length es ≤ 64
@@ -111,10 +111,10 @@ module _ (s : Settings) (limits : AreInLimits s) where
         let few = few_entries es h in
         listed-back (both counted cell) es (omega arith) (each_is (IsReadBack (both counted cell)) entry-back es h)
 
-    pub entries-short : (es : List (List ℕ × V)) → are_entries s test es ≡ true → length ((listed (both counted cell)).spell es) ≤ 90000
+    pub entries-short : (es : List (List ℕ × V)) → are_entries s test es ≡ true → length ((listed (both counted cell)).encode es) ≤ 90000
     entries-short es h =
         let few = few_entries es h in
-        let all = all_short (both counted cell) es (each_is (λ e. length ((both counted cell).spell e) ≤ 1284) entry-short es h) in
+        let all = all_short (both counted cell) es (each_is (λ e. length ((both counted cell).encode e) ≤ 1284) entry-short es h) in
         omega arith
 
   module _ {V : Type 0} (test : V → Bool) (cell : Codec V) (serves : Serves 1026 test cell) where
@@ -124,42 +124,42 @@ module _ (s : Settings) (limits : AreInLimits s) where
         let short = short_key e.0 key in
         (omega arith, serves.back e.1 value)
 
-    full-back : (spelling : Spelling) (low : List ℕ) (base : List (List ℕ × V)) → is_full s test low base ≡ true → IsReadBack (full spelling cell) (low, base)
-    full-back spelling low base h =
+    full-back : (encoding : KeyEncoding) (low : List ℕ) (base : List (List ℕ × V)) → is_full s test low base ≡ true → IsReadBack (full encoding cell) (low, base)
+    full-back encoding low base h =
         let (key, entries) = and_parts (is_key s low) (are_entries s test base) h in
         let few = few_entries 1026 (omega arith) test cell serves base entries in
         let each = each_is 1026 (omega arith) test cell serves (λ e. (length e.0 < 256) × IsReadBack cell e.1) base_entry base entries in
-        both_by-back counted (based spelling cell) (low, base) (low-back low key) (base-back cell spelling low base (omega arith) each)
+        both_by-back counted (based encoding cell) (low, base) (low-back low key) (base-back cell encoding low base (omega arith) each)
 
-    full-short : (spelling : Spelling) (low : List ℕ) (base : List (List ℕ × V)) → is_full s test low base ≡ true → length ((full spelling cell).spell (low, base)) ≤ 91000
-    full-short spelling low base h =
+    full-short : (encoding : KeyEncoding) (low : List ℕ) (base : List (List ℕ × V)) → is_full s test low base ≡ true → length ((full encoding cell).encode (low, base)) ≤ 91000
+    full-short encoding low base h =
         let (key, entries) = and_parts (is_key s low) (are_entries s test base) h in
         let short = short_key low key in
         let long = length-counted low in
         let rest = entries-short 1026 (omega arith) test cell serves base entries in
-        let most = base-shorter cell spelling low base in
-        let joined = length-append (counted.spell low) ((based spelling cell low).spell base) in
+        let most = base-shorter cell encoding low base in
+        let joined = length-append (counted.encode low) ((based encoding cell low).encode base) in
         omega arith
 
     run-back : (run : List (List ℕ × Option V)) → is_run s test run ≡ true → IsReadBack (delta cell) run
     run-back run h = entries-back 1027 (omega arith) (of_cell test) (flagged cell) (flag-serves test cell serves) run (and_parts _ _ h).1
 
-    run-short : (run : List (List ℕ × Option V)) → is_run s test run ≡ true → length ((delta cell).spell run) ≤ 90000
+    run-short : (run : List (List ℕ × Option V)) → is_run s test run ≡ true → length ((delta cell).encode run) ≤ 90000
     run-short run h = entries-short 1027 (omega arith) (of_cell test) (flagged cell) (flag-serves test cell serves) run (and_parts _ _ h).1
 
   content-back : (c : Content) → is_content s c ≡ true → (rest : List ℕ) → read_content (kind_of c) (content_bytes c ++ rest) ≡ gave c rest
   content-back (FullLeaf Whole low base) h rest = ap (read_as (λ p. FullLeaf Whole p.0 p.1)) (full-back (is_short_value s) value_cell value-serves Whole low base h rest)
-  content-back (FullLeaf Shared low base) h rest = ap (read_as (λ p. FullLeaf Shared p.0 p.1)) (full-back (is_short_value s) value_cell value-serves Shared low base h rest)
+  content-back (FullLeaf PrefixCompressed low base) h rest = ap (read_as (λ p. FullLeaf PrefixCompressed p.0 p.1)) (full-back (is_short_value s) value_cell value-serves PrefixCompressed low base h rest)
   content-back (DeltaLeaf run) h rest = ap (read_as (λ r. DeltaLeaf r)) (run-back (is_short_value s) value_cell value-serves run h rest)
   content-back (FullIndex Whole low base) h rest = ap (read_as (λ p. FullIndex Whole p.0 p.1)) (full-back is_pid pid_cell pid-serves Whole low base h rest)
-  content-back (FullIndex Shared low base) h rest = ap (read_as (λ p. FullIndex Shared p.0 p.1)) (full-back is_pid pid_cell pid-serves Shared low base h rest)
+  content-back (FullIndex PrefixCompressed low base) h rest = ap (read_as (λ p. FullIndex PrefixCompressed p.0 p.1)) (full-back is_pid pid_cell pid-serves PrefixCompressed low base h rest)
   content-back (DeltaIndex run) h rest = ap (read_as (λ r. DeltaIndex r)) (run-back is_pid pid_cell pid-serves run h rest)
   content-back Free h rest = refl
 
   pub content-short : (c : Content) → is_content s c ≡ true → length (content_bytes c) ≤ 91000
-  content-short (FullLeaf spelling low base) h = full-short (is_short_value s) value_cell value-serves spelling low base h
+  content-short (FullLeaf encoding low base) h = full-short (is_short_value s) value_cell value-serves encoding low base h
   content-short (DeltaLeaf run) h = let short = run-short (is_short_value s) value_cell value-serves run h in omega arith
-  content-short (FullIndex spelling low base) h = full-short is_pid pid_cell pid-serves spelling low base h
+  content-short (FullIndex encoding low base) h = full-short is_pid pid_cell pid-serves encoding low base h
   content-short (DeltaIndex run) h = let short = run-short is_pid pid_cell pid-serves run h in omega arith
   content-short Free h = omega arith
 
@@ -167,10 +167,10 @@ module _ (s : Settings) (limits : AreInLimits s) where
 
 small_kind : (c : Content) → kind_of c < 256
 small_kind (FullLeaf Whole low base) = omega arith
-small_kind (FullLeaf Shared low base) = omega arith
+small_kind (FullLeaf PrefixCompressed low base) = omega arith
 small_kind (DeltaLeaf run) = omega arith
 small_kind (FullIndex Whole low base) = omega arith
-small_kind (FullIndex Shared low base) = omega arith
+small_kind (FullIndex PrefixCompressed low base) = omega arith
 small_kind (DeltaIndex run) = omega arith
 small_kind Free = omega arith
 
@@ -186,7 +186,7 @@ module _ (g : Format) (limits : AreInLimits g.settings) where
       let c = f.content in
       let n = 8 + length (content_bytes c) in
       let short = content-short g.settings limits c content in
-      ap read_any (append_assoc (header.spell ((kind_of c, n), f.pid)) (content_bytes c) rest)
+      ap read_any (append_assoc (header.encode ((kind_of c, n), f.pid)) (content_bytes c) rest)
       ∙ ap (λ o. read_on o read_after) (header-back (kind_of c) n f.pid (small_kind c) (omega arith) (pid-is f.pid pid) (content_bytes c ++ rest))
       ∙ ap (λ o. read_as (λ d. record { pid = f.pid; content = d }) (read_where (λ d. n == 8 + length (content_bytes d)) o)) (content-back g.settings limits c content rest)
       ∙ rw (eq-eqb n n refl) refl

@@ -4,8 +4,8 @@ use Rattle.std.proofs.Common.{◌≡◌, ℕ, zero, suc, ◌+◌, ◌*◌, ◌^�
 use Rattle.std.proofs.lemmas.List.{take-append-le, drop-append-le}
 use Rattle.keys.specs.Cells.{Codec, read_on, read_as, read_where, read_number, number, read_bytes, counted, value_cell, pid_cell}
 use Rattle.frame_codec.specs.declared.format.Format.{Format}
-use Rattle.frame_codec.specs.declared.format.Spelling.{Spelling}
-use Rattle.frame_codec.specs.declared.format.Spelling.TheVariants.{Whole, Shared}
+use Rattle.frame_codec.specs.declared.format.KeyEncoding.{KeyEncoding}
+use Rattle.frame_codec.specs.declared.format.KeyEncoding.TheVariants.{Whole, PrefixCompressed}
 use Rattle.keys.proofs.CellLemmas.{gave, same_reading, nothing_read}
 use Rattle.frame_codec.specs.Codecs.{both, both_by, read_each, listed, flagged, counted_short, shared_and_rest, common, rejoined, sharing, read_in_turn}
 use Rattle.frame_codec.specs.Frame.{read_base, based, full, delta, content_bytes, header, is_frame}
@@ -101,13 +101,13 @@ turn-local entry le (suc n) before =
 
 -- ---- frames
 
-base-local : {V : Type 0} (spelling : Spelling) (cell : Codec V) (low : List ℕ) → IsLocal cell.read → (n : ℕ) → IsLocal (read_base spelling cell low n)
+base-local : {V : Type 0} (encoding : KeyEncoding) (cell : Codec V) (low : List ℕ) → IsLocal cell.read → (n : ℕ) → IsLocal (read_base encoding cell low n)
 base-local Whole cell low lc = each-local (both counted cell) (both-local counted cell counted-local lc)
-base-local Shared cell low lc = λ n. turn-local (λ before. both (sharing before) cell) (λ before. both-local (sharing before) cell (sharing-local before) lc) n low
+base-local PrefixCompressed cell low lc = λ n. turn-local (λ before. both (sharing before) cell) (λ before. both-local (sharing before) cell (sharing-local before) lc) n low
 
-full-local : {V : Type 0} (spelling : Spelling) (cell : Codec V) → IsLocal cell.read → IsLocal (full spelling cell).read
-full-local spelling cell lc =
-    both_by-local counted (based spelling cell) counted-local (λ low. on-local (number 2).read (read_base spelling cell low) (number-local 2) (base-local spelling cell low lc))
+full-local : {V : Type 0} (encoding : KeyEncoding) (cell : Codec V) → IsLocal cell.read → IsLocal (full encoding cell).read
+full-local encoding cell lc =
+    both_by-local counted (based encoding cell) counted-local (λ low. on-local (number 2).read (read_base encoding cell low) (number-local 2) (base-local encoding cell low lc))
 
 delta-local : {V : Type 0} (cell : Codec V) → IsLocal cell.read → IsLocal (delta cell).read
 delta-local cell lc = listed-local (both counted (flagged cell)) (both-local counted (flagged cell) counted-local (flagged-local cell lc))
@@ -119,8 +119,8 @@ content-local kind =
     (if-local (kind == 3) _ _ (as-local (λ p. FullIndex Whole p.0 p.1) (full Whole pid_cell).read (full-local Whole pid_cell (number-local 8)))
     (if-local (kind == 4) _ _ (as-local (λ run. DeltaIndex run) (delta pid_cell).read (delta-local pid_cell (number-local 8)))
     (if-local (kind == 5) _ _ (done-local Free)
-    (if-local (kind == 6) _ _ (as-local (λ p. FullLeaf Shared p.0 p.1) (full Shared value_cell).read (full-local Shared value_cell counted-local))
-    (if-local (kind == 7) _ _ (as-local (λ p. FullIndex Shared p.0 p.1) (full Shared pid_cell).read (full-local Shared pid_cell (number-local 8))) none-local))))))
+    (if-local (kind == 6) _ _ (as-local (λ p. FullLeaf PrefixCompressed p.0 p.1) (full PrefixCompressed value_cell).read (full-local PrefixCompressed value_cell counted-local))
+    (if-local (kind == 7) _ _ (as-local (λ p. FullIndex PrefixCompressed p.0 p.1) (full PrefixCompressed pid_cell).read (full-local PrefixCompressed pid_cell (number-local 8))) none-local))))))
 
 header-local : IsLocal header.read
 header-local = both-local (both (number 1) (number 4)) pid_cell (both-local (number 1) (number 4) (number-local 1) (number-local 4)) (number-local 8)

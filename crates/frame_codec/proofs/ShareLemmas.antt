@@ -7,14 +7,14 @@ use Rattle.std.specs.declared.cmp.Ordering.{Ordering}
 use Rattle.std.specs.declared.cmp.Ordering.TheVariants.{Equal}
 use Rattle.std.specs.Cmp.{nat_cmp_is}
 use Rattle.std.specs.Ordering.{ordering_then, nat_cmp}
-use Rattle.keys.specs.Cells.{Codec, AreBytes, IsReadBack, ReadsSpellings, read_on, read_as, read_where, number, read_bytes}
+use Rattle.keys.specs.Cells.{Codec, AreBytes, IsReadBack, ReadsEncodings, read_on, read_as, read_where, number, read_bytes}
 use Rattle.keys.specs.Order.{order}
 use Rattle.keys.specs.declared.settings.Settings.{Settings}
-use Rattle.keys.proofs.CellLemmas.{gave, nothing_read, read_as-gave, read_where-gave, goes_on, number-back, number-spelled, read_bytes-of, read_bytes-gave}
+use Rattle.keys.proofs.CellLemmas.{gave, nothing_read, read_as-gave, read_where-gave, goes_on, number-back, number-encoded, read_bytes-of, read_bytes-gave}
 use Rattle.frame_codec.specs.Codecs.{counted_short, shared_and_rest, common, rejoined, sharing}
 use Rattle.frame_codec.specs.Frame.{is_key}
 use Rattle.frame_codec.proofs.EachLemmas.{not_true}
-use Rattle.frame_codec.proofs.CodecLemmas.{both-back, both-spelled}
+use Rattle.frame_codec.proofs.CodecLemmas.{both-back, both-encoded}
 
 one_more : (n : ℕ) → 1 + n ≡ suc n
 one_more n = omega arith
@@ -82,18 +82,18 @@ parted-by (Some r) n j left rest h e reported =
 
 short-back : (bs : List ℕ) → length bs < 256 → IsReadBack counted_short bs
 short-back bs few rest =
-    ap counted_short.read (append_assoc ((number 1).spell (length bs)) bs rest)
+    ap counted_short.read (append_assoc ((number 1).encode (length bs)) bs rest)
     ∙ ap (λ o. read_on o read_bytes) (number-back 1 (length bs) few (bs ++ rest))
     ∙ read_bytes-of bs rest
 
-short-spelled : ReadsSpellings counted_short
-short-spelled bs xs rest bytes h =
-    let on = goes_on (number 1) (number-spelled 1) bs read_bytes xs rest bytes h in
+short-encoded : ReadsEncodings counted_short
+short-encoded bs xs rest bytes h =
+    let on = goes_on (number 1) (number-encoded 1) bs read_bytes xs rest bytes h in
     let (long, is) = read_bytes-gave on.first on.following xs rest on.went in
-    on.spelled
-    ∙ ap (λ (ys : List ℕ). (number 1).spell on.first ++ ys) is
-    ∙ ap (λ (n : ℕ). (number 1).spell n ++ (xs ++ rest)) (sym long)
-    ∙ sym (append_assoc ((number 1).spell (length xs)) xs rest)
+    on.encoded
+    ∙ ap (λ (ys : List ℕ). (number 1).encode on.first ++ ys) is
+    ∙ ap (λ (n : ℕ). (number 1).encode n ++ (xs ++ rest)) (sym long)
+    ∙ sym (append_assoc ((number 1).encode (length xs)) xs rest)
 
 -- whether that number is exactly the length of the prefix that the key before and the rejoined key share
 abbrev pub is_exact : List ℕ → ℕ × List ℕ → Bool
@@ -115,17 +115,17 @@ sharing-back before k few rest =
 rest_of : (n : ℕ) (j rest : List ℕ) → n ≤ length j → drop n (take n j ++ rest) ≡ rest
 rest_of n j rest h = drop_at (take n j) rest n (length-take-le n j h)
 
-pub sharing-spelled : (before : List ℕ) → ReadsSpellings (sharing before)
-sharing-spelled before bs k rest bytes h =
+pub sharing-encoded : (before : List ℕ) → ReadsEncodings (sharing before)
+sharing-encoded before bs k rest bytes h =
     let pair : Codec (ℕ × List ℕ) = shared_and_rest in
     let (p, read, is) = read_as-gave (rejoined before) (read_where (is_exact before) (pair.read bs)) k rest h in
     let (first, exact) = read_where-gave (is_exact before) (pair.read bs) p rest read in
     let shares : common before k ≡ p.0 = ap (common before) (sym is) ∙ eqb-true (common before (rejoined before p)) p.0 exact in
     let within = (common-le before k).0 in
     let ends : drop p.0 k ≡ p.1 = ap (drop p.0) (sym is) ∙ rest_of p.0 before p.1 (omega arith) in
-    both-spelled (number 1) counted_short (number-spelled 1) short-spelled bs p rest bytes first
-    ∙ ap (λ (cs : List ℕ). pair.spell (p.0, cs) ++ rest) (sym ends)
-    ∙ ap (λ (n : ℕ). pair.spell (n, drop n k) ++ rest) (sym shares)
+    both-encoded (number 1) counted_short (number-encoded 1) short-encoded bs p rest bytes first
+    ∙ ap (λ (cs : List ℕ). pair.encode (p.0, cs) ++ rest) (sym ends)
+    ∙ ap (λ (n : ℕ). pair.encode (n, drop n k) ++ rest) (sym shares)
 
 -- what is read of a key, after its parts are read
 pub sharing-read : (before bs : List ℕ) (n : ℕ) (following rest end : List ℕ) → (number 1).read bs ≡ gave n following → counted_short.read following ≡ gave rest end
@@ -157,7 +157,7 @@ sharing-refused s before bs n following rest end first second exact long =
     ap (read_where (is_key s)) (sharing-read before bs n following rest end first second exact) ∙ rw over refl
 
 -- in how many bytes
-pub sharing-size : (before k : List ℕ) → length ((sharing before).spell k) ≡ 2 + length (drop (common before k) k)
+pub sharing-size : (before k : List ℕ) → length ((sharing before).encode k) ≡ 2 + length (drop (common before k) k)
 sharing-size before k = omega arith
 
 -- ---- only the first bytes of the key before matter, as many as a byte can count

@@ -1,30 +1,30 @@
 -- Row 15.1: two leaves and the index page above them, with prefix-compressed keys; and bytes that begin with no such frame.
 use Rattle.std.specs.Prelude.{[], ◌∷◌, codes}
 use Rattle.std.proofs.Common.{refl}
-use Rattle.frame_codec.specs.declared.format.Spelling.TheVariants.{Shared}
+use Rattle.frame_codec.specs.declared.format.KeyEncoding.TheVariants.{PrefixCompressed}
 use Rattle.frame_codec.specs.Frame.Content.{FullLeaf, FullIndex}
 use Rattle.frame_codec.proofs.RowForms.{IsShared, IsRefused}
 
-leaf_0 : IsShared (record { pid = 0; content = FullLeaf Shared [] ((codes "a", codes "1") ∷ (codes "b", codes "2") ∷ []) })
+leaf_0 : IsShared (record { pid = 0; content = FullLeaf PrefixCompressed [] ((codes "a", codes "1") ∷ (codes "b", codes "2") ∷ []) })
     "06 00000018 0000000000000000 0000 0002 00 01 61 0001 31 00 01 62 0001 32"
 leaf_0 = (refl, refl, refl)
 
 leaf_1 : IsShared
-    (record { pid = 1; content = FullLeaf Shared (codes "c") ((codes "c", codes "3") ∷ (codes "d", codes "4") ∷ (codes "e", codes "5") ∷ []) })
+    (record { pid = 1; content = FullLeaf PrefixCompressed (codes "c") ((codes "c", codes "3") ∷ (codes "d", codes "4") ∷ (codes "e", codes "5") ∷ []) })
     "06 0000001e 0000000000000001 0001 63 0003 01 00 0001 33 00 01 64 0001 34 00 01 65 0001 35"
 leaf_1 = (refl, refl, refl)
 
-root : IsShared (record { pid = 2; content = FullIndex Shared [] (([], 0) ∷ (codes "c", 1) ∷ []) })
+root : IsShared (record { pid = 2; content = FullIndex PrefixCompressed [] (([], 0) ∷ (codes "c", 1) ∷ []) })
     "07 00000021 0000000000000002 0000 0002 00 00 0000000000000000 00 01 63 0000000000000001"
 root = (refl, refl, refl)
 
 -- keys that each continue where the one before ends, or part from it before it ends
-nested : IsShared (record { pid = 0; content = FullLeaf Shared (codes "ab") ((codes "abc", []) ∷ (codes "abcd", []) ∷ (codes "abd", []) ∷ []) })
+nested : IsShared (record { pid = 0; content = FullLeaf PrefixCompressed (codes "ab") ((codes "abc", []) ∷ (codes "abcd", []) ∷ (codes "abd", []) ∷ []) })
     "06 0000001d 0000000000000000 0002 6162 0003 02 01 63 0000 03 01 64 0000 02 01 64 0000"
 nested = (refl, refl, refl)
 
 -- a first key may be below the low key: whether it lies in its page is not asked of a frame
-below_low : IsShared (record { pid = 0; content = FullLeaf Shared (codes "ab") ((codes "a", []) ∷ []) })
+below_low : IsShared (record { pid = 0; content = FullLeaf PrefixCompressed (codes "ab") ((codes "a", []) ∷ []) })
     "06 00000012 0000000000000000 0002 6162 0001 01 00 0000"
 below_low = (refl, refl, refl)
 

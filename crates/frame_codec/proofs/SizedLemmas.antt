@@ -8,13 +8,13 @@ use Rattle.keys.specs.Limits.{first_bad_field}
 use Rattle.keys.specs.declared.settings.Settings.{Settings}
 use Rattle.keys.proofs.CellLemmas.{length-counted}
 use Rattle.index_page.specs.Rules.{is_short_value, is_any_pid, of_cell}
-use Rattle.frame_codec.specs.Appended.{AreSpellable}
-use Rattle.frame_codec.specs.Codecs.{both, spell_flag, flagged}
+use Rattle.frame_codec.specs.Appended.{AreEncodable}
+use Rattle.frame_codec.specs.Codecs.{both, encode_flag, flagged}
 use Rattle.frame_codec.specs.declared.format.Format.{Format}
-use Rattle.frame_codec.specs.declared.format.Spelling.{Spelling}
+use Rattle.frame_codec.specs.declared.format.KeyEncoding.{KeyEncoding}
 use Rattle.frame_codec.specs.Frame.{Content, Frame, based, full, delta, is_pid, is_key, are_entries, is_full, is_run, is_content, is_readable, is_allowed, is_frame}
 use Rattle.frame_codec.specs.Frame.Content.{FullLeaf, DeltaLeaf, FullIndex, DeltaIndex, Free}
-use Rattle.frame_codec.specs.Sized.{has_sizes, IsSized, HasWords}
+use Rattle.frame_codec.specs.Sized.{has_sizes, IsSized, FitsU64}
 use Rattle.frame_codec.proofs.BaseLemmas.{base-shorter}
 use Rattle.frame_codec.proofs.FrameLemmas.{AreInLimits, in_limits}
 
@@ -22,20 +22,20 @@ use Rattle.frame_codec.proofs.FrameLemmas.{AreInLimits, in_limits}
 
 -- no encoding of a cell that passes the test is longer than this
 abbrev pub IsShortest : {V : Type 0} → ℕ → Codec V → (V → Bool) → Type 0
-IsShortest {V = V} most cell has = (v : V) → has v ≡ true → length (cell.spell v) ≤ most
+IsShortest {V = V} most cell has = (v : V) → has v ≡ true → length (cell.encode v) ≤ most
 
 -- the conditions under which entries within limits can be encoded
 pub record AreShort {X : Type 0} (cell : Codec X) (es : List (List ℕ × X)) : Type 0 where
   pub count : length es ≤ 64
-  pub small : AreSpellable cell es
-  pub few : length (flat_map (both counted cell).spell es) ≤ 90000
+  pub small : AreEncodable cell es
+  pub few : length (flat_map (both counted cell).encode es) ≤ 90000
 
 module _ (s : Settings) (limits : AreInLimits s) where
   short_key : (k : List ℕ) → is_key s k ≡ true → length k ≤ 255
   short_key k h = let most = limits.max_key in let long = leb-true (length k) s.max_key h in omega arith
 
   module _ {X : Type 0} (cell : Codec X) (has : X → Bool) (short : IsShortest 1027 cell has) where
-    each_short : (es : List (List ℕ × X)) → list_all (λ e. is_key s e.0 && has e.1) es ≡ true → AreSpellable cell es × (length (flat_map (both counted cell).spell es) ≤ length es * 1284)
+    each_short : (es : List (List ℕ × X)) → list_all (λ e. is_key s e.0 && has e.1) es ≡ true → AreEncodable cell es × (length (flat_map (both counted cell).encode es) ≤ length es * 1284)
     each_short [] h = (tt, omega arith)
     each_short (e ∷ es) h =
         let (one, rest) = and_parts _ _ h in
@@ -43,8 +43,8 @@ module _ (s : Settings) (limits : AreInLimits s) where
         let of_key = short_key e.0 key in
         let of_value = short e.1 value in
         let key_long = length-counted e.0 in
-        let inner = length-append (counted.spell e.0) (cell.spell e.1) in
-        let outer = length-append ((both counted cell).spell e) (flat_map (both counted cell).spell es) in
+        let inner = length-append (counted.encode e.0) (cell.encode e.1) in
+        let outer = length-append ((both counted cell).encode e) (flat_map (both counted cell).encode es) in
         let (small, few) = each_short es rest in
         (((omega arith, omega arith), small), omega arith)
 
@@ -62,7 +62,7 @@ module _ (s : Settings) (limits : AreInLimits s) where
         let (key, entries) = and_parts (is_key s low) (are_entries s has base) h in
         (short_key low key, entries_short cell has (λ v k. let one = short v k in omega arith) base entries)
 
-    flag_short : (o : Option V) → of_cell has o ≡ true → length (spell_flag cell o) ≤ 1027
+    flag_short : (o : Option V) → of_cell has o ≡ true → length (encode_flag cell o) ≤ 1027
     flag_short None h = omega arith
     flag_short (Some v) h = let one = short v h in omega arith
 
@@ -76,27 +76,27 @@ pub pid_short : IsShortest 1026 pid_cell is_any_pid
 pid_short p h = omega arith
 
 -- the same of a content of each kind
-pub leaf-short : (spelling : Spelling) (low : List ℕ) (base : List (List ℕ × List ℕ)) → IsSized (FullLeaf spelling low base) → (length low ≤ 255) × AreShort value_cell base
-leaf-short spelling low base (s, good, h) = let limits = in_limits s good in full-short s limits value_cell (is_short_value s) (value_short s limits) low base h
+pub leaf-short : (encoding : KeyEncoding) (low : List ℕ) (base : List (List ℕ × List ℕ)) → IsSized (FullLeaf encoding low base) → (length low ≤ 255) × AreShort value_cell base
+leaf-short encoding low base (s, good, h) = let limits = in_limits s good in full-short s limits value_cell (is_short_value s) (value_short s limits) low base h
 
 pub leaf_run-short : (run : List (List ℕ × Option (List ℕ))) → IsSized (DeltaLeaf run) → AreShort (flagged value_cell) run
 leaf_run-short run (s, good, h) = let limits = in_limits s good in run-short s limits value_cell (is_short_value s) (value_short s limits) run h
 
-pub index-short : (spelling : Spelling) (low : List ℕ) (base : List (List ℕ × ℕ)) → IsSized (FullIndex spelling low base) → (length low ≤ 255) × AreShort pid_cell base
-index-short spelling low base (s, good, h) = full-short s (in_limits s good) pid_cell is_any_pid pid_short low base h
+pub index-short : (encoding : KeyEncoding) (low : List ℕ) (base : List (List ℕ × ℕ)) → IsSized (FullIndex encoding low base) → (length low ≤ 255) × AreShort pid_cell base
+index-short encoding low base (s, good, h) = full-short s (in_limits s good) pid_cell is_any_pid pid_short low base h
 
 pub index_run-short : (run : List (List ℕ × Option ℕ)) → IsSized (DeltaIndex run) → AreShort (flagged pid_cell) run
 index_run-short run (s, good, h) = run-short s (in_limits s good) pid_cell is_any_pid pid_short run h
 
-pub full-few : {V : Type 0} (spelling : Spelling) (cell : Codec V) (low : List ℕ) (base : List (List ℕ × V)) → length low ≤ 255 → AreShort cell base → length ((full spelling cell).spell (low, base)) < 2 ^ 31
-full-few spelling cell low base key entries =
+pub full-few : {V : Type 0} (encoding : KeyEncoding) (cell : Codec V) (low : List ℕ) (base : List (List ℕ × V)) → length low ≤ 255 → AreShort cell base → length ((full encoding cell).encode (low, base)) < 2 ^ 31
+full-few encoding cell low base key entries =
     let long = length-counted low in
-    let joined = length-append (counted.spell low) ((based spelling cell low).spell base) in
-    let most = base-shorter cell spelling low base in
+    let joined = length-append (counted.encode low) ((based encoding cell low).encode base) in
+    let most = base-shorter cell encoding low base in
     let few = entries.few in
     omega arith
 
-pub delta-few : {V : Type 0} (cell : Codec V) (run : List (List ℕ × Option V)) → AreShort (flagged cell) run → length ((delta cell).spell run) < 2 ^ 31
+pub delta-few : {V : Type 0} (cell : Codec V) (run : List (List ℕ × Option V)) → AreShort (flagged cell) run → length ((delta cell).encode run) < 2 ^ 31
 delta-few cell run changes = let few = changes.few in omega arith
 
 -- ---- page ids of 64 bits
@@ -118,19 +118,19 @@ word_entries s X has word short by es h w =
 any_cell : (o : Option ℕ) → of_cell is_any_pid o ≡ true → of_cell is_pid o ≡ true → of_cell is_pid o ≡ true
 any_cell o h w = w
 
-pub leaf-words : (pid : ℕ) (spelling : Spelling) (low : List ℕ) (base : List (List ℕ × List ℕ)) → is_pid pid ≡ true → HasWords (record { pid = pid; content = FullLeaf spelling low base })
-leaf-words pid spelling low base p g r h = both_true p (both_true r h)
+pub leaf-words : (pid : ℕ) (encoding : KeyEncoding) (low : List ℕ) (base : List (List ℕ × List ℕ)) → is_pid pid ≡ true → FitsU64 (record { pid = pid; content = FullLeaf encoding low base })
+leaf-words pid encoding low base p g r h = both_true p (both_true r h)
 
-pub leaf_run-words : (pid : ℕ) (run : List (List ℕ × Option (List ℕ))) → is_pid pid ≡ true → HasWords (record { pid = pid; content = DeltaLeaf run })
+pub leaf_run-words : (pid : ℕ) (run : List (List ℕ × Option (List ℕ))) → is_pid pid ≡ true → FitsU64 (record { pid = pid; content = DeltaLeaf run })
 leaf_run-words pid run p g r h = both_true p (both_true r h)
 
-pub index-words : (pid : ℕ) (spelling : Spelling) (low : List ℕ) (base : List (List ℕ × ℕ)) → is_pid pid ≡ true → list_all (λ e. is_pid e.1) base ≡ true → HasWords (record { pid = pid; content = FullIndex spelling low base })
-index-words pid spelling low base p w g r h =
+pub index-words : (pid : ℕ) (encoding : KeyEncoding) (low : List ℕ) (base : List (List ℕ × ℕ)) → is_pid pid ≡ true → list_all (λ e. is_pid e.1) base ≡ true → FitsU64 (record { pid = pid; content = FullIndex encoding low base })
+index-words pid encoding low base p w g r h =
     let s = g.settings in
     let (key, entries) = and_parts (is_key s low) (are_entries s is_any_pid base) h in
     both_true p (both_true r (both_true key (word_entries s ℕ is_any_pid is_pid is_pid (λ v k l. l) base entries w)))
 
-pub index_run-words : (pid : ℕ) (run : List (List ℕ × Option ℕ)) → is_pid pid ≡ true → list_all (λ e. of_cell is_pid e.1) run ≡ true → HasWords (record { pid = pid; content = DeltaIndex run })
+pub index_run-words : (pid : ℕ) (run : List (List ℕ × Option ℕ)) → is_pid pid ≡ true → list_all (λ e. of_cell is_pid e.1) run ≡ true → FitsU64 (record { pid = pid; content = DeltaIndex run })
 index_run-words pid run p w g r h =
     let (some, entries) = and_parts _ _ h in
     both_true p (both_true r (both_true some (word_entries g.settings (Option ℕ) (of_cell is_any_pid) (of_cell is_pid) (of_cell is_pid) any_cell run entries w)))
@@ -152,9 +152,9 @@ any_changes s ((k, Some p) ∷ es) h =
     both_true (both_true (and_parts (is_key s k) (is_pid p) one).0 refl) (any_changes s es rest)
 
 sizes-content : (s : Settings) (c : Content) → is_content s c ≡ true → has_sizes s c ≡ true
-sizes-content s (FullLeaf spelling low base) h = h
+sizes-content s (FullLeaf encoding low base) h = h
 sizes-content s (DeltaLeaf run) h = h
-sizes-content s (FullIndex spelling low base) h =
+sizes-content s (FullIndex encoding low base) h =
     let (key, entries) = and_parts (is_key s low) (are_entries s is_pid base) h in
     let (sized, each) = and_parts _ _ entries in
     both_true key (both_true sized (any_pids s base each))

@@ -11,8 +11,8 @@ use Rattle.keys.proofs.CellLemmas.{gave, nothing_read, read_where-gave}
 use Rattle.delta_chain.specs.Building.{goes_last}
 use Rattle.delta_chain.proofs.Rising.{rising-push}
 use Rattle.frame_codec.specs.declared.format.Format.{Format}
-use Rattle.frame_codec.specs.declared.format.Spelling.{Spelling}
-use Rattle.frame_codec.specs.declared.format.Spelling.TheVariants.{Shared}
+use Rattle.frame_codec.specs.declared.format.KeyEncoding.{KeyEncoding}
+use Rattle.frame_codec.specs.declared.format.KeyEncoding.TheVariants.{PrefixCompressed}
 use Rattle.frame_codec.specs.Frame.{Content, Frame, read_base, full, header, bytes_of, is_pid, is_key, are_entries, is_full, is_allowed}
 use Rattle.frame_codec.specs.Reading.{read_content, read_frame}
 use Rattle.frame_codec.specs.Skimmed.{kind_of, is_above}
@@ -20,7 +20,7 @@ use Rattle.frame_codec.specs.declared.skim.FrameKind.{FrameKind}
 use Rattle.frame_codec.proofs.BaseLemmas.{base-taken}
 use Rattle.frame_codec.proofs.EachLemmas.{IsReadUpTo, next_entry, last_key, last_key-push, read_entries, read-none, read-next, read-ends, read-falls, read-done, read-many}
 use Rattle.frame_codec.proofs.FoundLemmas.{IsReadOf, IsContent, read_allowed, content-found, content-none, frame-answered}
-use Rattle.frame_codec.proofs.ReadLemmas.{header-spelled, frame-stands}
+use Rattle.frame_codec.proofs.ReadLemmas.{header-encoded, frame-stands}
 use Rattle.frame_codec.proofs.WithinLemmas.{decides-rising}
 
 -- ---- entries
@@ -35,16 +35,16 @@ last-pushed [] j v k = refl
 last-pushed (e ∷ []) j v k = refl
 last-pushed (e ∷ f ∷ es) j v k = last-pushed (f ∷ es) j v k
 
-module _ {X : Type 0} (s : Settings) (short : X → Bool) (spelling : Spelling) (cell : Codec X) (low : List ℕ) (count : ℕ) (start : List ℕ) where
+module _ {X : Type 0} (s : Settings) (short : X → Bool) (encoding : KeyEncoding) (cell : Codec X) (low : List ℕ) (count : ℕ) (start : List ℕ) where
   -- the next entry, if it is within the settings
   abbrev pub next_within : List ℕ → List ℕ → Option ((List ℕ × X) × List ℕ)
-  next_within before now = read_where (λ (e : List ℕ × X). is_key s e.0 && short e.1) ((next_entry spelling cell before).read now)
+  next_within before now = read_where (λ (e : List ℕ × X). is_key s e.0 && short e.1) ((next_entry encoding cell before).read now)
 
   -- the first `at` entries were skipped, the last with this key; they are within the settings, their keys rise, and the next entry is encoded after
   -- that key
   pub record IsPassedUpTo (at : ℕ) (last : Option (List ℕ)) (key : List ℕ) (now : List ℕ) : Type 0 where
     pub built : List (List ℕ × X)
-    pub upto : IsReadUpTo s short spelling cell low count start at built now
+    pub upto : IsReadUpTo s short encoding cell low count start at built now
     pub rising : IsRising built
     pub above : (k : List ℕ) → goes_last k built ≡ is_above last k
     pub before : last_key low built ≡ key
@@ -52,7 +52,7 @@ module _ {X : Type 0} (s : Settings) (short : X → Bool) (spelling : Spelling) 
   pub passed-none : IsPassedUpTo 0 None low start
   passed-none = record {
     built = [];
-    upto = read-none s short spelling cell low count start;
+    upto = read-none s short encoding cell low count start;
     rising = (decides-rising {X = X} []).0 refl;
     above = λ k. refl;
     before = refl;
@@ -62,38 +62,38 @@ module _ {X : Type 0} (s : Settings) (short : X → Bool) (spelling : Spelling) 
     here : (o : Option ((List ℕ × X) × List ℕ)) → next_within key now ≡ o → next_within (last_key low up.built) now ≡ o
     here o h = rw up.before h
 
-    pub passed-ends : at < count → next_within key now ≡ None → read_entries s short spelling cell low count start ≡ None
-    passed-ends more h = read-ends s short spelling cell low count start at up.built now up.upto more (here None h)
+    pub passed-ends : at < count → next_within key now ≡ None → read_entries s short encoding cell low count start ≡ None
+    passed-ends more h = read-ends s short encoding cell low count start at up.built now up.upto more (here None h)
 
     module _ (k : List ℕ) (v : X) (following : List ℕ) (more : at < count) (read : next_within key now ≡ Some ((k, v), following)) where
       pub passed-next : (next : Option (List ℕ)) → next ≡ Some k → is_above last k ≡ true → IsPassedUpTo (at + 1) next k following
       passed-next next same above = record {
         built = up.built ++ (k, v) ∷ [];
-        upto = read-next s short spelling cell low count start at up.built now up.upto k v following more (here (Some ((k, v), following)) read);
+        upto = read-next s short encoding cell low count start at up.built now up.upto k v following more (here (Some ((k, v), following)) read);
         rising = rising-push up.built k v up.rising (up.above k ∙ above);
         above = λ j. last-pushed up.built k v j ∙ ap (λ (l : Option (List ℕ)). is_above l j) (sym same);
         before = last_key-push low up.built k v;
       }
 
-      pub passed-falls : is_above last k ≡ false → read_entries s short spelling cell low count start ≡ None
+      pub passed-falls : is_above last k ≡ false → read_entries s short encoding cell low count start ≡ None
       passed-falls falls =
-          read-falls s short spelling cell low count start at up.built now up.upto k v following more (here (Some ((k, v), following)) read) (up.above k ∙ falls)
+          read-falls s short encoding cell low count start at up.built now up.upto k v following more (here (Some ((k, v), following)) read) (up.above k ∙ falls)
 
-    pub passed-done : count ≤ at → count ≤ s.fan → (es : List (List ℕ × X)) × (read_entries s short spelling cell low count start ≡ Some (es, now))
-    passed-done done few = (up.built, read-done s short spelling cell low count start at up.built now up.upto done few up.rising)
+    pub passed-done : count ≤ at → count ≤ s.fan → (es : List (List ℕ × X)) × (read_entries s short encoding cell low count start ≡ Some (es, now))
+    passed-done done few = (up.built, read-done s short encoding cell low count start at up.built now up.upto done few up.rising)
 
-  module _ (es : List (List ℕ × X)) (end : List ℕ) (whole : read_entries s short spelling cell low count start ≡ Some (es, end)) where
+  module _ (es : List (List ℕ × X)) (end : List ℕ) (whole : read_entries s short encoding cell low count start ≡ Some (es, end)) where
     -- if all are read, there are no more than fan of them
     pub whole-few : count ≤ s.fan
     whole-few =
-        let few : s.fan < count → ⊥ = λ many. nothing_read (es, end) (sym (read-many s short spelling cell low count start many) ∙ whole) in
+        let few : s.fan < count → ⊥ = λ many. nothing_read (es, end) (sym (read-many s short encoding cell low count start many) ∙ whole) in
         omega (arith, few)
 
     -- and each goes after those that were read before it
-    pub whole-rises : (at : ℕ) (built : List (List ℕ × X)) (now : List ℕ) → IsReadUpTo s short spelling cell low count start at built now → (k : List ℕ) (v : X) (following : List ℕ)
+    pub whole-rises : (at : ℕ) (built : List (List ℕ × X)) (now : List ℕ) → IsReadUpTo s short encoding cell low count start at built now → (k : List ℕ) (v : X) (following : List ℕ)
         → at < count → next_within (last_key low built) now ≡ Some ((k, v), following) → goes_last k built ≡ true
     whole-rises at built now up k v following more h =
-        not_false (goes_last k built) (λ falls. nothing_read (es, end) (sym (read-falls s short spelling cell low count start at built now up k v following more h falls) ∙ whole))
+        not_false (goes_last k built) (λ falls. nothing_read (es, end) (sym (read-falls s short encoding cell low count start at built now up k v following more h falls) ∙ whole))
 
 -- ---- entries whose keys share beginnings
 
@@ -123,32 +123,32 @@ module _ (at : ℕ) (key k : List ℕ) (rises : Bool) (is : rises ≡ is_lt (ord
 
 -- of the low key only the first bytes matter
 pub shared-taken : {X : Type 0} (s : Settings) (short : X → Bool) (cell : Codec X) (low : List ℕ) (count : ℕ) (start : List ℕ) → AreBytes start
-    → read_entries s short Shared cell (take 510 low) count start ≡ read_entries s short Shared cell low count start
+    → read_entries s short PrefixCompressed cell (take 510 low) count start ≡ read_entries s short PrefixCompressed cell low count start
 shared-taken s short cell low count start bytes = ap (read_where (are_entries s short)) (base-taken cell 510 low count start (omega arith) bytes)
 
 -- ---- a base under its low key
 
-module _ {V : Type 0} (s : Settings) (short : V → Bool) (spelling : Spelling) (cell : Codec V) (bs low following : List ℕ) (count : ℕ) (rest : List ℕ)
+module _ {V : Type 0} (s : Settings) (short : V → Bool) (encoding : KeyEncoding) (cell : Codec V) (bs low following : List ℕ) (count : ℕ) (rest : List ℕ)
     (key : read_where (is_key s) (counted.read bs) ≡ Some (low, following)) (counts : read_number 2 following ≡ Some (count, rest)) where
   -- what is read of a low key and a base
   abbrev pub read_full : Option ((List ℕ × List (List ℕ × V)) × List ℕ)
-  read_full = read_where (λ p. is_full s short p.0 p.1) ((full spelling cell).read bs)
+  read_full = read_where (λ p. is_full s short p.0 p.1) ((full encoding cell).read bs)
 
   abbrev of_entries : Option (List (List ℕ × V) × List ℕ) → Option ((List ℕ × List (List ℕ × V)) × List ℕ)
   of_entries o = read_where (λ p. is_full s short p.0 p.1) (read_as (λ es. (low, es)) o)
 
   -- after the low key and the count are read
-  full-of_entries : read_full ≡ of_entries (read_base spelling cell low count rest)
+  full-of_entries : read_full ≡ of_entries (read_base encoding cell low count rest)
   full-of_entries =
-      ap (λ (o : Option (List ℕ × List ℕ)). read_where (λ p. is_full s short p.0 p.1) (read_on o (λ x more. read_as (λ es. (x, es)) (read_on (read_number 2 more) (read_base spelling cell x)))))
+      ap (λ (o : Option (List ℕ × List ℕ)). read_where (λ p. is_full s short p.0 p.1) (read_on o (λ x more. read_as (λ es. (x, es)) (read_on (read_number 2 more) (read_base encoding cell x)))))
       (read_where-gave (is_key s) (counted.read bs) low following key).0
-      ∙ ap (λ (o : Option (ℕ × List ℕ)). of_entries (read_on o (read_base spelling cell low))) counts
+      ∙ ap (λ (o : Option (ℕ × List ℕ)). of_entries (read_on o (read_base encoding cell low))) counts
 
   key_passes : is_key s low ≡ true
   key_passes = (read_where-gave (is_key s) (counted.read bs) low following key).1
 
-  pub full-none : read_entries s short spelling cell low count rest ≡ None → read_full ≡ None
-  full-none h = full-of_entries ∙ of (read_base spelling cell low count rest) h
+  pub full-none : read_entries s short encoding cell low count rest ≡ None → read_full ≡ None
+  full-none h = full-of_entries ∙ of (read_base encoding cell low count rest) h
     where
       of : (o : Option (List (List ℕ × V) × List ℕ)) → read_where (are_entries s short) o ≡ None → of_entries o ≡ None
       of None k = refl
@@ -158,9 +158,9 @@ module _ {V : Type 0} (s : Settings) (short : V → Bool) (spelling : Spelling) 
           by true e = absurd (nothing_read (p.0, p.1) (sym e))
           by false e = refl
 
-  pub full-passed : (es : List (List ℕ × V)) (end : List ℕ) → read_entries s short spelling cell low count rest ≡ Some (es, end) → read_full ≡ Some ((low, es), end)
+  pub full-passed : (es : List (List ℕ × V)) (end : List ℕ) → read_entries s short encoding cell low count rest ≡ Some (es, end) → read_full ≡ Some ((low, es), end)
   full-passed es end h =
-      let (read, passed) = read_where-gave (are_entries s short) (read_base spelling cell low count rest) es end h in
+      let (read, passed) = read_where-gave (are_entries s short) (read_base encoding cell low count rest) es end h in
       full-of_entries ∙ ap of_entries read ∙ rw (key_passes, passed) refl
 
 -- ---- a content, and a frame
@@ -197,7 +197,7 @@ module _ (g : Format) (bs : List ℕ) (number len pid : ℕ) (body : List ℕ) (
   -- there are no fewer bytes in all than after the header
   pub body-within : length body ≤ length bs
   body-within =
-      let long = ap length (header-spelled bs ((number, len), pid) body bytes head) ∙ length-append (header.spell ((number, len), pid)) body in
+      let long = ap length (header-encoded bs ((number, len), pid) body bytes head) ∙ length-append (header.encode ((number, len), pid)) body in
       omega arith
 
   -- no content within the settings

@@ -17,9 +17,9 @@ abbrev pub in_version : Settings → Version → Format
 in_version s v = record { settings = s; version = v }
 
 readable : (c : Content) → is_readable Two c ≡ true
-readable (FullLeaf spelling low base) = refl
+readable (FullLeaf encoding low base) = refl
 readable (DeltaLeaf run) = refl
-readable (FullIndex spelling low base) = refl
+readable (FullIndex encoding low base) = refl
 readable (DeltaIndex run) = refl
 readable Free = refl
 

@@ -15,7 +15,7 @@ use Rattle.index_page.specs.Rules.{do_rise, is_short_value, IsShortValue, of_cel
 use Rattle.index_page.proofs.ListLemmas.{all_apart, all_weaker}
 use Rattle.index_page.proofs.RuleLemmas.{decides_all, decides_le, decides-keeps_range}
 use Rattle.frame_codec.specs.declared.format.Format.{Format}
-use Rattle.frame_codec.specs.declared.format.Spelling.{Spelling}
+use Rattle.frame_codec.specs.declared.format.KeyEncoding.{KeyEncoding}
 use Rattle.frame_codec.specs.Frame.{is_pid, is_key, is_full, is_run, is_known, is_frame}
 use Rattle.frame_codec.specs.Frame.Content.{FullLeaf, DeltaLeaf, FullIndex, DeltaIndex}
 
@@ -112,11 +112,11 @@ decides-value s v = decides_le (length v) s.max_value
 pub decides-pid : (p : ℕ) → Decides (is_pid p) (p < 2 ^ 64)
 decides-pid p = (ltb-true p (2 ^ 64), lt-ltb p (2 ^ 64))
 
-pub leaf_within : (g : Format) (spelling : Spelling) (pid : ℕ) (p : Page (List ℕ)) → is_known g.version spelling ≡ true → pid < 2 ^ 64
+pub leaf_within : (g : Format) (encoding : KeyEncoding) (pid : ℕ) (p : Page (List ℕ)) → is_known g.version encoding ≡ true → pid < 2 ^ 64
     → length p.low ≤ g.settings.max_key → IsInOrder p.layers → Fits g.settings (IsShortValue g.settings) p →
-    (is_frame g (record { pid = pid; content = FullLeaf spelling p.low p.layers.base }) ≡ true)
+    (is_frame g (record { pid = pid; content = FullLeaf encoding p.low p.layers.base }) ≡ true)
     × AllByRecursion (λ run. is_frame g (record { pid = pid; content = DeltaLeaf run }) ≡ true) p.layers.runs
-leaf_within g spelling pid p known at low rising fits =
+leaf_within g encoding pid p known at low rising fits =
     let s = g.settings in
     let numbered = (decides-pid pid).1 at in
     let (base, runs) = page_passes s (is_short_value s) (IsShortValue s) (decides-value s) p low rising fits in (
@@ -124,11 +124,11 @@ leaf_within g spelling pid p known at low rising fits =
       all_weaker (λ run. is_run s (is_short_value s) run ≡ true) (λ run. is_frame g (record { pid = pid; content = DeltaLeaf run }) ≡ true) (λ run h. both_true numbered (both_true refl h)) p.layers.runs runs,
     )
 
-pub index_within : (g : Format) (spelling : Spelling) (pid : ℕ) (p : Page ℕ) → is_known g.version spelling ≡ true → pid < 2 ^ 64
+pub index_within : (g : Format) (encoding : KeyEncoding) (pid : ℕ) (p : Page ℕ) → is_known g.version encoding ≡ true → pid < 2 ^ 64
     → length p.low ≤ g.settings.max_key → IsInOrder p.layers → Fits g.settings (λ q. q < 2 ^ 64) p →
-    (is_frame g (record { pid = pid; content = FullIndex spelling p.low p.layers.base }) ≡ true)
+    (is_frame g (record { pid = pid; content = FullIndex encoding p.low p.layers.base }) ≡ true)
     × AllByRecursion (λ run. is_frame g (record { pid = pid; content = DeltaIndex run }) ≡ true) p.layers.runs
-index_within g spelling pid p known at low rising fits =
+index_within g encoding pid p known at low rising fits =
     let s = g.settings in
     let numbered = (decides-pid pid).1 at in
     let (base, runs) = page_passes s is_pid (λ q. q < 2 ^ 64) decides-pid p low rising fits in (

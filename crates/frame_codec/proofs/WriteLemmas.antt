@@ -8,11 +8,11 @@ use Rattle.keys.specs.Cells.{Codec, number, counted}
 use Rattle.keys.specs.Sizes.{pid_size}
 use Rattle.keys.proofs.CellLemmas.{length-counted}
 use Rattle.delta_chain.proofs.Places.{drop_pair}
-use Rattle.frame_codec.specs.Appended.{HasRoomFor, IsAppended, IsCount, IsShortCount, AreSpellable}
-use Rattle.frame_codec.specs.declared.format.Spelling.{Spelling}
-use Rattle.frame_codec.specs.declared.format.Spelling.TheVariants.{Whole, Shared}
+use Rattle.frame_codec.specs.Appended.{HasRoomFor, IsAppended, IsCount, IsShortCount, AreEncodable}
+use Rattle.frame_codec.specs.declared.format.KeyEncoding.{KeyEncoding}
+use Rattle.frame_codec.specs.declared.format.KeyEncoding.TheVariants.{Whole, PrefixCompressed}
 use Rattle.frame_codec.specs.Codecs.{both, flagged, common, sharing}
-use Rattle.frame_codec.specs.Frame.{spell_base, based, full, delta, header}
+use Rattle.frame_codec.specs.Frame.{encode_base, based, full, delta, header}
 use Rattle.frame_codec.specs.Sized.{framed}
 use Rattle.frame_codec.proofs.EachLemmas.{keyed}
 use Rattle.frame_codec.proofs.ShareLemmas.{common-le}
@@ -69,14 +69,14 @@ module _ {Z : Type 0} (whole : List ℕ) where
 -- ---- the entry at a place
 
 module _ {X : Type 0} where
-  pub spellable-at : (cell : Codec X) (es : List (List ℕ × X)) (at : ℕ) (k : List ℕ) (v : X) → AreSpellable cell es
-      → slice_get (keys_of es) at ≡ Some k → slice_get (values_of es) at ≡ Some v → IsShortCount (length k) × IsCount (length (cell.spell v))
-  spellable-at cell [] at k v h i j = absurd (cc)
-  spellable-at cell (e ∷ es) zero k v h i j =
+  pub encodable-at : (cell : Codec X) (es : List (List ℕ × X)) (at : ℕ) (k : List ℕ) (v : X) → AreEncodable cell es
+      → slice_get (keys_of es) at ≡ Some k → slice_get (values_of es) at ≡ Some v → IsShortCount (length k) × IsCount (length (cell.encode v))
+  encodable-at cell [] at k v h i j = absurd (cc)
+  encodable-at cell (e ∷ es) zero k v h i j =
       let s : e.0 ≡ k = cc in
       let t : e.1 ≡ v = cc in
       rw (← s, ← t) h.0
-  spellable-at cell (e ∷ es) (suc at) k v h i j = spellable-at cell es at k v h.1 i j
+  encodable-at cell (e ∷ es) (suc at) k v h i j = encodable-at cell es at k v h.1 i j
 
   pub tested-next : (test : List ℕ × X → Bool) (es : List (List ℕ × X)) (at : ℕ) (k : List ℕ) (v : X)
       → slice_get (keys_of es) at ≡ Some k → slice_get (values_of es) at ≡ Some v → test (k, v) ≡ true
@@ -89,112 +89,112 @@ module _ {X : Type 0} where
       → list_all test (drop at es) ≡ list_all test es → list_all test es ≡ true
   tested-done test es at l h = sym h ∙ ap (list_all test) (drop_all at es l)
 
-base-following : {X : Type 0} (spelling : Spelling) (cell : Codec X) (before k : List ℕ) (v : X) (es : List (List ℕ × X))
-    → spell_base spelling cell before ((k, v) ∷ es) ≡ ((keyed spelling before).spell k ++ cell.spell v) ++ spell_base spelling cell k es
+base-following : {X : Type 0} (encoding : KeyEncoding) (cell : Codec X) (before k : List ℕ) (v : X) (es : List (List ℕ × X))
+    → encode_base encoding cell before ((k, v) ∷ es) ≡ ((keyed encoding before).encode k ++ cell.encode v) ++ encode_base encoding cell k es
 base-following Whole cell before k v es = refl
-base-following Shared cell before k v es = refl
+base-following PrefixCompressed cell before k v es = refl
 
-base-at_end : {X : Type 0} (spelling : Spelling) (cell : Codec X) (before : List ℕ) → spell_base spelling cell before [] ≡ []
+base-at_end : {X : Type 0} (encoding : KeyEncoding) (cell : Codec X) (before : List ℕ) → encode_base encoding cell before [] ≡ []
 base-at_end Whole cell before = refl
-base-at_end Shared cell before = refl
+base-at_end PrefixCompressed cell before = refl
 
-module _ {X : Type 0} (spelling : Spelling) (cell : Codec X) (low : List ℕ) (es : List (List ℕ × X)) where
+module _ {X : Type 0} (encoding : KeyEncoding) (cell : Codec X) (low : List ℕ) (es : List (List ℕ × X)) where
   -- the encoded entries from a place on, the first one after the key before it
-  abbrev pub spelled_from : List ℕ → ℕ → List ℕ
-  spelled_from before at = spell_base spelling cell before (drop at es)
+  abbrev pub encoded_from : List ℕ → ℕ → List ℕ
+  encoded_from before at = encode_base encoding cell before (drop at es)
 
-  spelled-following : (before : List ℕ) (at : ℕ) (k : List ℕ) (v : X) → slice_get (keys_of es) at ≡ Some k → slice_get (values_of es) at ≡ Some v
-      → spelled_from before at ≡ ((keyed spelling before).spell k ++ cell.spell v) ++ spelled_from k (at + 1)
-  spelled-following before at k v i j = rw add-one (ap (spell_base spelling cell before) (drop_pair es at k v i j) ∙ base-following spelling cell before k v (drop (suc at) es))
+  encoded-following : (before : List ℕ) (at : ℕ) (k : List ℕ) (v : X) → slice_get (keys_of es) at ≡ Some k → slice_get (values_of es) at ≡ Some v
+      → encoded_from before at ≡ ((keyed encoding before).encode k ++ cell.encode v) ++ encoded_from k (at + 1)
+  encoded-following before at k v i j = rw add-one (ap (encode_base encoding cell before) (drop_pair es at k v i j) ∙ base-following encoding cell before k v (drop (suc at) es))
 
   pub length-following : (before : List ℕ) (at : ℕ) (k : List ℕ) (v : X) → slice_get (keys_of es) at ≡ Some k → slice_get (values_of es) at ≡ Some v
-      → length (spelled_from before at) ≡ length ((keyed spelling before).spell k) + length (cell.spell v) + length (spelled_from k (at + 1))
+      → length (encoded_from before at) ≡ length ((keyed encoding before).encode k) + length (cell.encode v) + length (encoded_from k (at + 1))
   length-following before at k v i j =
-      let all : length (spelled_from before at) ≡ length (((keyed spelling before).spell k ++ cell.spell v) ++ spelled_from k (at + 1)) = ap length (spelled-following before at k v i j) in
-      let outer = length-append ((keyed spelling before).spell k ++ cell.spell v) (spelled_from k (at + 1)) in
-      let inner = length-append ((keyed spelling before).spell k) (cell.spell v) in
+      let all : length (encoded_from before at) ≡ length (((keyed encoding before).encode k ++ cell.encode v) ++ encoded_from k (at + 1)) = ap length (encoded-following before at k v i j) in
+      let outer = length-append ((keyed encoding before).encode k ++ cell.encode v) (encoded_from k (at + 1)) in
+      let inner = length-append ((keyed encoding before).encode k) (cell.encode v) in
       omega arith
 
-  pub spelled-at_end : (before : List ℕ) (at : ℕ) → length es ≤ at → spelled_from before at ≡ []
-  spelled-at_end before at l = ap (spell_base spelling cell before) (drop_all at es l) ∙ base-at_end spelling cell before
+  pub encoded-at_end : (before : List ℕ) (at : ℕ) → length es ≤ at → encoded_from before at ≡ []
+  encoded-at_end before at l = ap (encode_base encoding cell before) (drop_all at es l) ∙ base-at_end encoding cell before
 
   -- the entries before this place were appended to the old bytes, and the next entry is encoded after this key
   abbrev pub IsUpTo : {Z : Type 0} → List ℕ → ℕ → Vec ℕ Z → Vec ℕ Z → Type 0
-  IsUpTo before at old now = IsPartOf (spelled_from low 0) (spelled_from before at) old now
+  IsUpTo before at old now = IsPartOf (encoded_from low 0) (encoded_from before at) old now
 
   module _ {Z : Type 0} where
     pub upto-none : (out : Vec ℕ Z) → IsUpTo low 0 out out
-    upto-none out = part-none (spelled_from low 0) out
+    upto-none out = part-none (encoded_from low 0) out
 
     module _ (before : List ℕ) (at : ℕ) (old now : Vec ℕ Z) (up : IsUpTo before at old now) where
-      pub upto-room : (k : List ℕ) (v : X) → HasRoomFor old (length (spelled_from low 0))
-          → slice_get (keys_of es) at ≡ Some k → slice_get (values_of es) at ≡ Some v → HasRoomFor now (length ((keyed spelling before).spell k) + length (cell.spell v))
+      pub upto-room : (k : List ℕ) (v : X) → HasRoomFor old (length (encoded_from low 0))
+          → slice_get (keys_of es) at ≡ Some k → slice_get (values_of es) at ≡ Some v → HasRoomFor now (length ((keyed encoding before).encode k) + length (cell.encode v))
       upto-room k v room i j =
-          let left = part-room (spelled_from low 0) (spelled_from before at) old now room up in
+          let left = part-room (encoded_from low 0) (encoded_from before at) old now room up in
           let following = length-following before at k v i j in
           omega arith
 
       pub upto-next : (mid new : Vec ℕ Z) (k : List ℕ) (v : X) → slice_get (keys_of es) at ≡ Some k → slice_get (values_of es) at ≡ Some v
-          → IsAppended now mid ((keyed spelling before).spell k) → IsAppended mid new (cell.spell v) → IsUpTo k (at + 1) old new
+          → IsAppended now mid ((keyed encoding before).encode k) → IsAppended mid new (cell.encode v) → IsUpTo k (at + 1) old new
       upto-next mid new k v i j key value =
-          part-next (spelled_from low 0) (spelled_from before at) ((keyed spelling before).spell k ++ cell.spell v) (spelled_from k (at + 1)) old now new (spelled-following before at k v i j) up
-          (appended-on now mid new ((keyed spelling before).spell k) (cell.spell v) key value)
+          part-next (encoded_from low 0) (encoded_from before at) ((keyed encoding before).encode k ++ cell.encode v) (encoded_from k (at + 1)) old now new (encoded-following before at k v i j) up
+          (appended-on now mid new ((keyed encoding before).encode k) (cell.encode v) key value)
 
-      pub upto-done : length es ≤ at → IsAppended old now (spell_base spelling cell low es)
-      upto-done l = part-done (spelled_from low 0) (spelled_from before at) old now (spelled-at_end before at l) up
+      pub upto-done : length es ≤ at → IsAppended old now (encode_base encoding cell low es)
+      upto-done l = part-done (encoded_from low 0) (encoded_from before at) old now (encoded-at_end before at l) up
 
 -- a byte is encoded as itself
-byte_spelled : (n : ℕ) → n < 256 → (number 1).spell n ≡ n ∷ []
-byte_spelled n h = ap (λ (m : ℕ). m ∷ []) (mod-eq_of_lt h)
+byte_encoded : (n : ℕ) → n < 256 → (number 1).encode n ≡ n ∷ []
+byte_encoded n h = ap (λ (m : ℕ). m ∷ []) (mod-eq_of_lt h)
 
 -- what is shared, how long the rest is, and the rest
 pub sharing-appended : {Z : Type 0} (before k : List ℕ) (old one two new : Vec ℕ Z) (shared count : ℕ) (rest : List ℕ) → length k < 256
     → shared ≡ common before k → rest ≡ drop shared k → count ≡ length rest
-    → IsAppended old one (shared ∷ []) → IsAppended one two (count ∷ []) → IsAppended two new rest → IsAppended old new ((sharing before).spell k)
+    → IsAppended old one (shared ∷ []) → IsAppended one two (count ∷ []) → IsAppended two new rest → IsAppended old new ((sharing before).encode k)
 sharing-appended before k old one two new shared count rest few e r c first second third =
     let within = (common-le before k).1 in
     let left : length (drop (common before k) k) ≡ length k - common before k = length-drop (common before k) k in
     let ends : rest ≡ drop (common before k) k = r ∙ ap (λ (n : ℕ). drop n k) e in
     let long : count ≡ length (drop (common before k) k) = c ∙ ap length ends in
-    let of_shared : shared ∷ [] ≡ (number 1).spell (common before k) = ap (λ (n : ℕ). n ∷ []) e ∙ sym (byte_spelled (common before k) (omega arith)) in
-    let of_count : count ∷ [] ≡ (number 1).spell (length (drop (common before k) k)) = ap (λ (n : ℕ). n ∷ []) long ∙ sym (byte_spelled (length (drop (common before k) k)) (omega arith)) in
+    let of_shared : shared ∷ [] ≡ (number 1).encode (common before k) = ap (λ (n : ℕ). n ∷ []) e ∙ sym (byte_encoded (common before k) (omega arith)) in
+    let of_count : count ∷ [] ≡ (number 1).encode (length (drop (common before k) k)) = ap (λ (n : ℕ). n ∷ []) long ∙ sym (byte_encoded (length (drop (common before k) k)) (omega arith)) in
     let all = appended-on old one new (shared ∷ []) ((count ∷ []) ++ rest) first (appended-on one two new (count ∷ []) rest second third) in
     let n : ℕ = common before k in
     let left_of : List ℕ = drop n k in
-    let same : shared ∷ count ∷ rest ≡ (sharing before).spell k =
+    let same : shared ∷ count ∷ rest ≡ (sharing before).encode k =
     ap (λ (cs : List ℕ). cs ++ (count ∷ rest)) of_shared
-    ∙ ap (λ (cs : List ℕ). (number 1).spell n ++ (cs ++ rest)) of_count
-    ∙ ap (λ (cs : List ℕ). (number 1).spell n ++ ((number 1).spell (length left_of) ++ cs)) ends in
+    ∙ ap (λ (cs : List ℕ). (number 1).encode n ++ (cs ++ rest)) of_count
+    ∙ ap (λ (cs : List ℕ). (number 1).encode n ++ ((number 1).encode (length left_of) ++ cs)) ends in
     subst (λ (cs : List ℕ). IsAppended old new cs) same all
 
 -- ---- frames
 
 -- the bytes after the pid were appended to those before it
 pub framed-whole : {Z : Type 0} (old mid new : Vec ℕ Z) (kind pid n : ℕ) (bytes : List ℕ) → n ≡ length bytes
-    → IsAppended old mid (header.spell ((kind, pid_size + n), pid)) → IsAppended mid new bytes → new.items ≡ old.items ++ framed kind pid bytes
+    → IsAppended old mid (header.encode ((kind, pid_size + n), pid)) → IsAppended mid new bytes → new.items ≡ old.items ++ framed kind pid bytes
 framed-whole old mid new kind pid n bytes e head following =
-    (appended-on old mid new (header.spell ((kind, pid_size + n), pid)) bytes head following).items
-    ∙ ap (λ (m : ℕ). old.items ++ (header.spell ((kind, pid_size + m), pid) ++ bytes)) e
+    (appended-on old mid new (header.encode ((kind, pid_size + n), pid)) bytes head following).items
+    ∙ ap (λ (m : ℕ). old.items ++ (header.encode ((kind, pid_size + m), pid) ++ bytes)) e
 
 module _ {Z : Type 0} {V : Type 0} (cell : Codec V) (kind pid n m : ℕ) (old mid b new : Vec ℕ Z) where
-  counts : {X : Type 0} (a : Vec ℕ Z) (es : List X) → m ≡ length es → IsAppended a b ((number 2).spell m) → IsAppended a b ((number 2).spell (length es))
-  counts a es e h = subst (λ k. IsAppended a b ((number 2).spell k)) e h
+  counts : {X : Type 0} (a : Vec ℕ Z) (es : List X) → m ≡ length es → IsAppended a b ((number 2).encode m) → IsAppended a b ((number 2).encode (length es))
+  counts a es e h = subst (λ k. IsAppended a b ((number 2).encode k)) e h
 
-  pub full-framed : (spelling : Spelling) (a : Vec ℕ Z) (low : List ℕ) (base : List (List ℕ × V)) → n ≡ 4 + length low + length (spell_base spelling cell low base) → m ≡ length base
-      → IsAppended old mid (header.spell ((kind, pid_size + n), pid)) → IsAppended mid a (counted.spell low) → IsAppended a b ((number 2).spell m)
-      → IsAppended b new (spell_base spelling cell low base) → new.items ≡ old.items ++ framed kind pid ((full spelling cell).spell (low, base))
-  full-framed spelling a low base e f head key count entries =
-      let all : IsAppended a new ((based spelling cell low).spell base) =
-      appended-on a b new ((number 2).spell (length base)) (spell_base spelling cell low base) (counts a base f count) entries in
-      let following : IsAppended mid new ((full spelling cell).spell (low, base)) = appended-on mid a new (counted.spell low) ((based spelling cell low).spell base) key all in
-      let joined = length-append (counted.spell low) ((based spelling cell low).spell base) in
+  pub full-framed : (encoding : KeyEncoding) (a : Vec ℕ Z) (low : List ℕ) (base : List (List ℕ × V)) → n ≡ 4 + length low + length (encode_base encoding cell low base) → m ≡ length base
+      → IsAppended old mid (header.encode ((kind, pid_size + n), pid)) → IsAppended mid a (counted.encode low) → IsAppended a b ((number 2).encode m)
+      → IsAppended b new (encode_base encoding cell low base) → new.items ≡ old.items ++ framed kind pid ((full encoding cell).encode (low, base))
+  full-framed encoding a low base e f head key count entries =
+      let all : IsAppended a new ((based encoding cell low).encode base) =
+      appended-on a b new ((number 2).encode (length base)) (encode_base encoding cell low base) (counts a base f count) entries in
+      let following : IsAppended mid new ((full encoding cell).encode (low, base)) = appended-on mid a new (counted.encode low) ((based encoding cell low).encode base) key all in
+      let joined = length-append (counted.encode low) ((based encoding cell low).encode base) in
       let long = length-counted low in
-      framed-whole old mid new kind pid n ((full spelling cell).spell (low, base)) (omega arith) head following
+      framed-whole old mid new kind pid n ((full encoding cell).encode (low, base)) (omega arith) head following
 
-  pub delta-framed : (run : List (List ℕ × Option V)) → n ≡ 2 + length (flat_map (both counted (flagged cell)).spell run) → m ≡ length run
-      → IsAppended old mid (header.spell ((kind, pid_size + n), pid)) → IsAppended mid b ((number 2).spell m)
-      → IsAppended b new (flat_map (both counted (flagged cell)).spell run) → new.items ≡ old.items ++ framed kind pid ((delta cell).spell run)
+  pub delta-framed : (run : List (List ℕ × Option V)) → n ≡ 2 + length (flat_map (both counted (flagged cell)).encode run) → m ≡ length run
+      → IsAppended old mid (header.encode ((kind, pid_size + n), pid)) → IsAppended mid b ((number 2).encode m)
+      → IsAppended b new (flat_map (both counted (flagged cell)).encode run) → new.items ≡ old.items ++ framed kind pid ((delta cell).encode run)
   delta-framed run e f head count changes =
-      let following : IsAppended mid new ((delta cell).spell run) =
-      appended-on mid b new ((number 2).spell (length run)) (flat_map (both counted (flagged cell)).spell run) (counts mid run f count) changes in
-      framed-whole old mid new kind pid n ((delta cell).spell run) (omega arith) head following
+      let following : IsAppended mid new ((delta cell).encode run) =
+      appended-on mid b new ((number 2).encode (length run)) (flat_map (both counted (flagged cell)).encode run) (counts mid run f count) changes in
+      framed-whole old mid new kind pid n ((delta cell).encode run) (omega arith) head following

@@ -23,5 +23,5 @@ abbrev pub IsShortCount : ℕ → Type 0
 IsShortCount n = n < 256
 
 -- the key of each entry, and its encoded cell, are short enough for their lengths to be encoded
-abbrev pub AreSpellable : {X : Type 0} → Codec X → Pairs X → Type 0
-AreSpellable cell es = AllByRecursion (λ e. IsShortCount (length e.0) × IsCount (length (cell.spell e.1))) es
+abbrev pub AreEncodable : {X : Type 0} → Codec X → Pairs X → Type 0
+AreEncodable cell es = AllByRecursion (λ e. IsShortCount (length e.0) × IsCount (length (cell.encode e.1))) es

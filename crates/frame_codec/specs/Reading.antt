@@ -4,7 +4,7 @@ use Rattle.keys.specs.Bytes.{Bytes}
 use Rattle.keys.specs.Cells.{read_on, read_as, read_where, value_cell, pid_cell}
 use Rattle.keys.specs.Sizes.{pid_size}
 use Rattle.frame_codec.specs.declared.format.Format.{Format}
-use Rattle.frame_codec.specs.declared.format.Spelling.TheVariants.{Whole, Shared}
+use Rattle.frame_codec.specs.declared.format.KeyEncoding.TheVariants.{Whole, PrefixCompressed}
 use Rattle.frame_codec.specs.Frame.{Content, Frame, full, delta, content_bytes, header, bytes_of, is_frame}
 use Rattle.frame_codec.specs.Frame.Content.{FullLeaf, DeltaLeaf, FullIndex, DeltaIndex, Free}
 
@@ -21,8 +21,8 @@ read_content kind bs =
     (if kind == 3 then read_as (λ p. FullIndex Whole p.0 p.1) ((full Whole pid_cell).read bs) else
     (if kind == 4 then read_as (λ run. DeltaIndex run) ((delta pid_cell).read bs) else
     (if kind == 5 then Some (Free, bs) else
-    (if kind == 6 then read_as (λ p. FullLeaf Shared p.0 p.1) ((full Shared value_cell).read bs) else
-    (if kind == 7 then read_as (λ p. FullIndex Shared p.0 p.1) ((full Shared pid_cell).read bs) else None))))))
+    (if kind == 6 then read_as (λ p. FullLeaf PrefixCompressed p.0 p.1) ((full PrefixCompressed value_cell).read bs) else
+    (if kind == 7 then read_as (λ p. FullIndex PrefixCompressed p.0 p.1) ((full PrefixCompressed pid_cell).read bs) else None))))))
 
 -- decodes the frame with this header, if its content has exactly the length in the header
 abbrev pub read_after : (ℕ × ℕ) × ℕ → Bytes → Option (Frame × Bytes)

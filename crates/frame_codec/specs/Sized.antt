@@ -11,9 +11,9 @@ use Rattle.frame_codec.specs.Frame.Content.{FullLeaf, DeltaLeaf, FullIndex, Delt
 
 -- the limits of a content, without those of its page ids
 abbrev pub has_sizes : Settings → Content → Bool
-has_sizes s (FullLeaf spelling low base) = is_full s (is_short_value s) low base
+has_sizes s (FullLeaf encoding low base) = is_full s (is_short_value s) low base
 has_sizes s (DeltaLeaf run) = is_run s (is_short_value s) run
-has_sizes s (FullIndex spelling low base) = is_full s is_any_pid low base
+has_sizes s (FullIndex encoding low base) = is_full s is_any_pid low base
 has_sizes s (DeltaIndex run) = is_run s is_any_pid run
 has_sizes s Free = true
 
@@ -22,9 +22,9 @@ abbrev pub IsSized : Content → Type 0
 IsSized c = (s : Settings) × (first_bad_field s ≡ None) × (has_sizes s c ≡ true)
 
 -- all page ids have 64 bits: a log may contain the frame if its version knows the key encoding and the sizes are within the store's settings
-abbrev pub HasWords : Frame → Type 0
-HasWords f = (g : Format) → is_readable g.version f.content ≡ true → has_sizes g.settings f.content ≡ true → is_frame g f ≡ true
+abbrev pub FitsU64 : Frame → Type 0
+FitsU64 f = (g : Format) → is_readable g.version f.content ≡ true → has_sizes g.settings f.content ≡ true → is_frame g f ≡ true
 
 -- a frame of this kind and pid, with these bytes after the pid
 abbrev pub framed : ℕ → ℕ → Bytes → Bytes
-framed kind pid bytes = header.spell ((kind, pid_size + length bytes), pid) ++ bytes
+framed kind pid bytes = header.encode ((kind, pid_size + length bytes), pid) ++ bytes

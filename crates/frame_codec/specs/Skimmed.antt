@@ -11,9 +11,9 @@ use Rattle.frame_codec.specs.Frame.Content.{FullLeaf, DeltaLeaf, FullIndex, Delt
 
 -- the kind of a frame with this content
 abbrev pub kind_of : Content → FrameKind
-kind_of (FullLeaf spelling low base) = kinds.FullLeaf
+kind_of (FullLeaf encoding low base) = kinds.FullLeaf
 kind_of (DeltaLeaf run) = kinds.DeltaLeaf
-kind_of (FullIndex spelling low base) = kinds.FullIndex
+kind_of (FullIndex encoding low base) = kinds.FullIndex
 kind_of (DeltaIndex run) = kinds.DeltaIndex
 kind_of Free = kinds.Free
 

@@ -5,14 +5,14 @@ ghost use Rattle.keys.specs.Bytes.{Bytes};
 ghost use Rattle.keys.specs.Cells.{read_where};
 ghost use Rattle.index_page.specs.Rules.{of_cell};
 ghost use Rattle.frame_codec.specs.Appended.{HasRoomFor, IsAppended, IsCount};
-ghost use Rattle.frame_codec.specs.Codecs.{spell_flag, flagged};
+ghost use Rattle.frame_codec.specs.Codecs.{encode_flag, flagged};
 
 use crate::parts::{append_byte, append_counted, append_pid, read_counted, read_pid};
 use keys::{Pid, Settings, Value};
 use std::alloc::{AllocError, Global};
 
 /// What follows a key in a frame: a cell, or a change, which is a cell or its absence.
-pub(crate) trait Spelled {
+pub(crate) trait FrameItem {
     ghost use Rattle.std.specs.Prelude.{Bool};
     ghost use Rattle.keys.specs.Cells.{Codec};
     ghost use Rattle.keys.specs.declared.settings.Settings as limits;
@@ -30,7 +30,7 @@ pub(crate) trait Spelled {
 }
 
 /// A kind of cell: the values of leaves, or the page ids of index pages.
-pub(crate) trait FrameCell: Spelled + Drop {
+pub(crate) trait FrameCell: FrameItem + Drop {
     ghost use Rattle.std.specs.Prelude.{Bool, true};
     ghost use Rattle.keys.specs.declared.settings.Settings as limits;
 
@@ -53,15 +53,15 @@ pub(crate) trait FrameCell: Spelled + Drop {
             ≡ Some (p.0, p.1.now))) };
 
     /// Returns the number of bytes of the encoded cell.
-    fn spelled_len(&self) -> usize
-        requires { IsCount (length (Self.codec.spell self.now)) }
-        ensures { result ≡ length (Self.codec.spell self.now) };
+    fn encoded_len(&self) -> usize
+        requires { IsCount (length (Self.codec.encode self.now)) }
+        ensures { result ≡ length (Self.codec.encode self.now) };
 
     /// Appends the encoded cell. `out` has room for it.
     fn append(&self, out: &mut Vec<u8>)
-        requires small { IsCount (length (Self.codec.spell self.now)) }
-        requires room { HasRoomFor out.old (length (Self.codec.spell self.now)) }
-        ensures bytes { IsAppended out.old out.new (Self.codec.spell self.now) }
+        requires small { IsCount (length (Self.codec.encode self.now)) }
+        requires room { HasRoomFor out.old (length (Self.codec.encode self.now)) }
+        ensures bytes { IsAppended out.old out.new (Self.codec.encode self.now) }
         ensures word { is_word self.now ≡ true };
 
     // Together, the two halves are the requirement for frames.
@@ -69,7 +69,7 @@ pub(crate) trait FrameCell: Spelled + Drop {
         is_word cell ≡ true → Self.is_short s cell ≡ true };
 }
 
-impl Spelled for Value<Global> {
+impl FrameItem for Value<Global> {
     ghost use Rattle.keys.specs.Cells.{value_cell};
     ghost use Rattle.index_page.specs.Rules.{is_short_value};
 
@@ -120,7 +120,7 @@ impl FrameCell for Value<Global> {
         Ok(Some((Value::from_bytes(alloc, value)?, rest)))
     }
 
-    fn spelled_len(&self) -> usize {
+    fn encoded_len(&self) -> usize {
         2 + self.len()
     }
 
@@ -129,7 +129,7 @@ impl FrameCell for Value<Global> {
     }
 }
 
-impl Spelled for Pid {
+impl FrameItem for Pid {
     ghost use Rattle.keys.specs.Cells.{pid_cell};
     ghost use Rattle.frame_codec.specs.Frame.{is_pid};
 
@@ -172,7 +172,7 @@ impl FrameCell for Pid {
         Ok(read_pid(bytes))
     }
 
-    fn spelled_len(&self) -> usize {
+    fn encoded_len(&self) -> usize {
         8
     }
 
@@ -181,7 +181,7 @@ impl FrameCell for Pid {
     }
 }
 
-impl<V: Spelled> Spelled for Option<V> {
+impl<V: FrameItem> FrameItem for Option<V> {
     ghost use Rattle.std.specs.Prelude.{Option};
 
     ghost codec = { flagged V.codec };
@@ -226,20 +226,20 @@ pub(crate) fn read_flagged<'a, V: FrameCell>(
 
 /// The number of bytes of the flag and, if there is one, the cell.
 pub(crate) fn flagged_len<V: FrameCell>(cell: Option<&V>) -> usize
-    requires { IsCount (length (spell_flag V.codec (option_copied cell))) }
-    ensures { result ≡ length (spell_flag V.codec (option_copied cell.entry)) }
+    requires { IsCount (length (encode_flag V.codec (option_copied cell))) }
+    ensures { result ≡ length (encode_flag V.codec (option_copied cell.entry)) }
 {
     match cell {
         None => 1,
-        Some(cell) => 1 + cell.spelled_len(),
+        Some(cell) => 1 + cell.encoded_len(),
     }
 }
 
 /// Appends the flag and, if there is one, the cell. `out` has room for them.
 pub(crate) fn append_flagged<V: FrameCell>(out: &mut Vec<u8>, cell: Option<&V>)
-    requires small { IsCount (length (spell_flag V.codec (option_copied cell))) }
-    requires room { HasRoomFor out.old (length (spell_flag V.codec (option_copied cell))) }
-    ensures bytes { IsAppended out.old out.new (spell_flag V.codec (option_copied cell.entry)) }
+    requires small { IsCount (length (encode_flag V.codec (option_copied cell))) }
+    requires room { HasRoomFor out.old (length (encode_flag V.codec (option_copied cell))) }
+    ensures bytes { IsAppended out.old out.new (encode_flag V.codec (option_copied cell.entry)) }
     ensures word { of_cell V.is_word (option_copied cell.entry) ≡ true }
 {
     match cell {

@@ -6,12 +6,12 @@ use keys::{Settings, Version};
 
 /// The encoding of a base's keys in a frame.
 #[derive(Clone, Copy, Debug, PartialEq, Eq)]
-pub enum Spelling {
+pub enum KeyEncoding {
     /// Each key is stored whole.
     Whole,
     /// Prefix compression: each key is stored without the prefix that it shares with the key before it, the first key
     /// without the prefix that it shares with the low key.
-    Shared,
+    PrefixCompressed,
 }
 
 /// What a reader of a log's frames must know besides their bytes.
@@ -25,11 +25,11 @@ pub struct Format {
 
 impl Format {
     /// Returns whether a log of this format may contain a base with this key encoding.
-    pub fn knows(&self, spelling: Spelling) -> bool
-        ensures { result ≡ is_known self.now.version spelling }
+    pub fn knows(&self, encoding: KeyEncoding) -> bool
+        ensures { result ≡ is_known self.now.version encoding }
     {
-        match (self.version, spelling) {
-            (Version::One, Spelling::Shared) => false,
+        match (self.version, encoding) {
+            (Version::One, KeyEncoding::PrefixCompressed) => false,
             _ => true,
         }
     }

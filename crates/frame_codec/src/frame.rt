@@ -1,5 +1,5 @@
 //! A decoded frame of the log.
-use crate::format::Spelling;
+use crate::format::KeyEncoding;
 use delta_chain::{Base, Run};
 use keys::{Key, Pid, Value};
 use std::alloc::Global;
@@ -11,7 +11,7 @@ pub enum Frame {
     /// A full image of a leaf: its low key, its base, and the encoding of the base's keys.
     FullLeaf {
         pid: Pid,
-        spelling: Spelling,
+        encoding: KeyEncoding,
         low: Key<Global>,
         base: Base<Value<Global>, Global>,
     },
@@ -23,7 +23,7 @@ pub enum Frame {
     /// A full image of an index page: its low key, its base, and the encoding of the base's keys.
     FullIndex {
         pid: Pid,
-        spelling: Spelling,
+        encoding: KeyEncoding,
         low: Key<Global>,
         base: Base<Pid, Global>,
     },

@@ -2,7 +2,7 @@
 ghost use Rattle.std.specs.Prelude.{◌≡◌};
 ghost use Rattle.frame_codec.specs.Frame.{leaf_kind, index_kind};
 
-use crate::format::Spelling;
+use crate::format::KeyEncoding;
 
 pub(crate) const FULL_LEAF: u8 = 1;
 
@@ -19,21 +19,21 @@ pub(crate) const SHARED_LEAF: u8 = 6;
 pub(crate) const SHARED_INDEX: u8 = 7;
 
 /// The kind number of a leaf's full image with this key encoding.
-pub(crate) fn leaf_kind(spelling: Spelling) -> u8
-    ensures { result ≡ leaf_kind spelling }
+pub(crate) fn leaf_kind(encoding: KeyEncoding) -> u8
+    ensures { result ≡ leaf_kind encoding }
 {
-    match spelling {
-        Spelling::Whole => FULL_LEAF,
-        Spelling::Shared => SHARED_LEAF,
+    match encoding {
+        KeyEncoding::Whole => FULL_LEAF,
+        KeyEncoding::PrefixCompressed => SHARED_LEAF,
     }
 }
 
 /// The kind number of an index page's full image with this key encoding.
-pub(crate) fn index_kind(spelling: Spelling) -> u8
-    ensures { result ≡ index_kind spelling }
+pub(crate) fn index_kind(encoding: KeyEncoding) -> u8
+    ensures { result ≡ index_kind encoding }
 {
-    match spelling {
-        Spelling::Whole => FULL_INDEX,
-        Spelling::Shared => SHARED_INDEX,
+    match encoding {
+        KeyEncoding::Whole => FULL_INDEX,
+        KeyEncoding::PrefixCompressed => SHARED_INDEX,
     }
 }

@@ -1,16 +1,16 @@
 //! Laws about the definitions of `specs/`. Each law is the contract of a function with an empty body.
 ghost use Rattle.std.specs.Prelude.{◌≡◌, ℕ, ◌+◌, ◌<◌, ◌≤◌, ◌^◌, true, ◌++◌, length, Some, None};
 ghost use Rattle.std.specs.List.{AllByRecursion};
-ghost use Rattle.keys.specs.Bytes.{Bytes, Pairs, Names};
-ghost use Rattle.keys.specs.Cells.{AreBytes, IsReadBack, ReadsSpellings, value_cell, pid_cell};
+ghost use Rattle.keys.specs.Bytes.{Bytes, Pairs, Separators};
+ghost use Rattle.keys.specs.Cells.{AreBytes, IsReadBack, ReadsEncodings, value_cell, pid_cell};
 ghost use Rattle.keys.specs.Limits.{first_bad_field};
 ghost use Rattle.delta_chain.specs.Layers.{IsInOrder};
 ghost use Rattle.index_page.specs.Page.{Page};
 ghost use Rattle.index_page.specs.Rules.{IsShortValue, Fits};
 ghost use Rattle.keys.specs.declared.settings.Settings.{Settings};
 ghost use Rattle.frame_codec.specs.declared.format.Format.{Format};
-ghost use Rattle.frame_codec.specs.declared.format.Spelling.{Spelling};
-ghost use Rattle.frame_codec.specs.declared.format.Spelling.TheVariants.{Whole};
+ghost use Rattle.frame_codec.specs.declared.format.KeyEncoding.{KeyEncoding};
+ghost use Rattle.frame_codec.specs.declared.format.KeyEncoding.TheVariants.{Whole};
 ghost use Rattle.keys.specs.declared.version.Version.TheVariants.{One, Two};
 ghost use Rattle.frame_codec.specs.Frame.{Frame, bytes_of, is_known, is_frame};
 ghost use Rattle.frame_codec.specs.Frame.Content.{FullLeaf, DeltaLeaf, FullIndex, DeltaIndex};
@@ -22,13 +22,13 @@ ghost use Rattle.frame_codec.specs.Sizes.{size_of};
 pub fn a_cell_is_read_back()
     ensures value { (v : Bytes) → length v < 65536 → IsReadBack value_cell v }
     ensures pid { (p : ℕ) → p < 2 ^ 64 → IsReadBack pid_cell p }
-    ensures values { ReadsSpellings value_cell }
-    ensures pids { ReadsSpellings pid_cell }
+    ensures values { ReadsEncodings value_cell }
+    ensures pids { ReadsEncodings pid_cell }
     ensures one_value { (v w following other : Bytes) → length v < 65536 → length w < 65536 →
-        value_cell.spell v ++ following ≡ value_cell.spell w ++ other →
+        value_cell.encode v ++ following ≡ value_cell.encode w ++ other →
         (v ≡ w) × (following ≡ other) }
     ensures one_pid { (p q : ℕ) (following other : Bytes) → p < 2 ^ 64 → q < 2 ^ 64 →
-        pid_cell.spell p ++ following ≡ pid_cell.spell q ++ other → (p ≡ q) × (following ≡ other) }
+        pid_cell.encode p ++ following ≡ pid_cell.encode q ++ other → (p ≡ q) × (following ≡ other) }
 {}
 
 /// A frame is decoded from its bytes, whatever follows them.
@@ -45,7 +45,7 @@ pub fn what_is_read_needs_no_byte_after_it()
 {}
 
 /// Two frames that are prefixes of the same bytes are equal: no frame's encoding is a prefix of another's.
-pub fn a_frame_has_one_spelling()
+pub fn a_frame_has_one_encoding()
     ensures { (g : Format) (e f : Frame) (following other : Bytes) →
         first_bad_field g.settings ≡ None → is_frame g e ≡ true → is_frame g f ≡ true →
         bytes_of e ++ following ≡ bytes_of f ++ other → (e ≡ f) × (following ≡ other) }
@@ -77,26 +77,26 @@ pub fn a_frame_has_its_size()
 
 /// Prefix compression never makes a base longer.
 pub fn shared_keys_take_no_more()
-    ensures leaf { (spelling : Spelling) (low : Bytes) (base : Pairs Bytes) →
-        size_of (FullLeaf spelling low base) ≤ size_of (FullLeaf Whole low base) }
-    ensures index_page { (spelling : Spelling) (low : Bytes) (base : Names) →
-        size_of (FullIndex spelling low base) ≤ size_of (FullIndex Whole low base) }
+    ensures leaf { (encoding : KeyEncoding) (low : Bytes) (base : Pairs Bytes) →
+        size_of (FullLeaf encoding low base) ≤ size_of (FullLeaf Whole low base) }
+    ensures index_page { (encoding : KeyEncoding) (low : Bytes) (base : Separators) →
+        size_of (FullIndex encoding low base) ≤ size_of (FullIndex Whole low base) }
 {}
 
 /// If a page's base is in order and within the settings, its full image is a valid frame with each key encoding that
 /// the version knows, and so is the frame of each of its runs.
 pub fn a_page_has_frames_within_settings()
-    ensures leaf { (g : Format) (spelling : Spelling) (pid : ℕ) (p : Page Bytes) →
-        is_known g.version spelling ≡ true → pid < 2 ^ 64 → length p.low ≤ g.settings.max_key →
+    ensures leaf { (g : Format) (encoding : KeyEncoding) (pid : ℕ) (p : Page Bytes) →
+        is_known g.version encoding ≡ true → pid < 2 ^ 64 → length p.low ≤ g.settings.max_key →
         IsInOrder p.layers → Fits g.settings (IsShortValue g.settings) p →
-        (is_frame g (record { pid = pid; content = FullLeaf spelling p.low p.layers.base })
+        (is_frame g (record { pid = pid; content = FullLeaf encoding p.low p.layers.base })
         ≡ true) ×
         AllByRecursion
         (λ run. is_frame g (record { pid = pid; content = DeltaLeaf run }) ≡ true) p.layers.runs }
-    ensures index_page { (g : Format) (spelling : Spelling) (pid : ℕ) (p : Page ℕ) →
-        is_known g.version spelling ≡ true → pid < 2 ^ 64 → length p.low ≤ g.settings.max_key →
+    ensures index_page { (g : Format) (encoding : KeyEncoding) (pid : ℕ) (p : Page ℕ) →
+        is_known g.version encoding ≡ true → pid < 2 ^ 64 → length p.low ≤ g.settings.max_key →
         IsInOrder p.layers → Fits g.settings (λ child. child < 2 ^ 64) p →
-        (is_frame g (record { pid = pid; content = FullIndex spelling p.low p.layers.base })
+        (is_frame g (record { pid = pid; content = FullIndex encoding p.low p.layers.base })
         ≡ true) ×
         AllByRecursion
         (λ run. is_frame g (record { pid = pid; content = DeltaIndex run }) ≡ true) p.layers.runs }

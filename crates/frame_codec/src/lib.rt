@@ -18,7 +18,7 @@ mod read;
 mod skim;
 mod write;
 
-pub use crate::format::{Format, Spelling};
+pub use crate::format::{Format, KeyEncoding};
 pub use crate::frame::Frame;
 pub use crate::read::read_frame;
 pub use crate::skim::{FrameKind, Skimmed, skim_frame};

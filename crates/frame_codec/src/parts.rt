@@ -140,7 +140,7 @@ pub(crate) fn append_byte(out: &mut Vec<u8>, byte: u8)
 pub(crate) fn append_length(out: &mut Vec<u8>, count: usize)
     requires small { IsCount count }
     requires room { HasRoomFor out.old 2 }
-    ensures { IsAppended out.old out.new ((number 2).spell count) }
+    ensures { IsAppended out.old out.new ((number 2).encode count) }
 {
     let mut bytes = [0; 2];
     BigEndian::write_u16(&mut bytes, count as u16);
@@ -149,7 +149,7 @@ pub(crate) fn append_length(out: &mut Vec<u8>, count: usize)
 
 pub(crate) fn append_u32(out: &mut Vec<u8>, count: u32)
     requires { HasRoomFor out.old 4 }
-    ensures { IsAppended out.old out.new ((number 4).spell count) }
+    ensures { IsAppended out.old out.new ((number 4).encode count) }
 {
     let mut bytes = [0; 4];
     BigEndian::write_u32(&mut bytes, count);
@@ -158,7 +158,7 @@ pub(crate) fn append_u32(out: &mut Vec<u8>, count: u32)
 
 pub(crate) fn append_pid(out: &mut Vec<u8>, pid: Pid)
     requires { HasRoomFor out.old 8 }
-    ensures bytes { IsAppended out.old out.new (pid_cell.spell pid) }
+    ensures bytes { IsAppended out.old out.new (pid_cell.encode pid) }
     ensures word { is_pid pid ≡ true }
 {
     let mut bytes = [0; 8];
@@ -170,7 +170,7 @@ pub(crate) fn append_pid(out: &mut Vec<u8>, pid: Pid)
 pub(crate) fn append_counted(out: &mut Vec<u8>, bytes: &[u8])
     requires small { IsCount (length bytes.now) }
     requires room { HasRoomFor out.old (2 + length bytes.now) }
-    ensures { IsAppended out.old out.new (counted.spell bytes.now) }
+    ensures { IsAppended out.old out.new (counted.encode bytes.now) }
 {
     append_length(out, bytes.len());
     append(out, bytes);
@@ -192,7 +192,7 @@ fn common_len(one: &[u8], other: &[u8]) -> usize
 /// The size of the prefix-compressed key, where `before` is the key before it.
 pub(crate) fn sharing_len(before: &[u8], key: &[u8]) -> usize
     requires { IsShortCount (length key.now) }
-    ensures { result ≡ length ((sharing before.now).spell key.now) }
+    ensures { result ≡ length ((sharing before.now).encode key.now) }
 {
     2 + (key.len() - common_len(before, key))
 }
@@ -200,8 +200,8 @@ pub(crate) fn sharing_len(before: &[u8], key: &[u8]) -> usize
 /// Appends the prefix-compressed key, where `before` is the key before it. There is room for it.
 pub(crate) fn append_sharing(out: &mut Vec<u8>, before: &[u8], key: &[u8])
     requires small { IsShortCount (length key.now) }
-    requires room { HasRoomFor out.old (length ((sharing before.now).spell key.now)) }
-    ensures { IsAppended out.old out.new ((sharing before.now).spell key.now) }
+    requires room { HasRoomFor out.old (length ((sharing before.now).encode key.now)) }
+    ensures { IsAppended out.old out.new ((sharing before.now).encode key.now) }
 {
     let shared = common_len(before, key);
     let rest = &key[shared..];

@@ -3,7 +3,7 @@ ghost use Rattle.std.specs.Prelude.{◌≡◌, ◌≤◌, ◌&&◌, [], ◌∷�
 ghost use Rattle.keys.specs.Bytes.{Bytes, Pairs};
 ghost use Rattle.keys.specs.Cells.{read_as, read_where, counted, value_cell, pid_cell};
 ghost use Rattle.delta_chain.specs.Building.{goes_last};
-ghost use Rattle.frame_codec.specs.declared.format.Spelling.TheVariants.{Shared};
+ghost use Rattle.frame_codec.specs.declared.format.KeyEncoding.TheVariants.{PrefixCompressed};
 ghost use Rattle.frame_codec.specs.Codecs.{both, read_each, flagged, sharing};
 ghost use Rattle.frame_codec.specs.Frame.{read_base, full, delta, bytes_of, is_key, are_entries, is_full, is_run, is_known, is_allowed};
 ghost use Rattle.frame_codec.specs.Frame.Content.{FullLeaf, FullIndex};
@@ -12,7 +12,7 @@ ghost use Rattle.frame_codec.specs.Shown.{frame_of};
 ghost use Rattle.index_page.specs.Rules.{of_cell};
 
 use crate::cell::{FrameCell, read_flagged};
-use crate::format::{Format, Spelling};
+use crate::format::{Format, KeyEncoding};
 use crate::frame::Frame;
 use crate::kinds::{
     DELTA_INDEX, DELTA_LEAF, FREE, FULL_INDEX, FULL_LEAF, SHARED_INDEX, SHARED_LEAF,
@@ -104,7 +104,7 @@ fn read_shared<'a, V: FrameCell>(
     bytes: &'a [u8],
     settings: &Settings,
 ) -> Result<Option<(Base<V, Global>, &'a [u8])>, AllocError>
-    ensures { let all = read_base Shared V.codec low.now count bytes.now in
+    ensures { let all = read_base PrefixCompressed V.codec low.now count bytes.now in
         let read = read_where (are_entries settings.now (V.is_short settings.now)) all in
         IfOk result (λ found. MatchOption found (read ≡ None) (λ p. read ≡ Some (p.0, p.1.now))) }
 {
@@ -130,19 +130,19 @@ fn read_shared<'a, V: FrameCell>(
 // them.
 fn read_base<'a, V: FrameCell>(
     alloc: Global,
-    spelling: Spelling,
+    encoding: KeyEncoding,
     low: &[u8],
     count: usize,
     bytes: &'a [u8],
     settings: &Settings,
 ) -> Result<Option<(Base<V, Global>, &'a [u8])>, AllocError>
-    ensures { let all = read_base spelling V.codec low.now count bytes.now in
+    ensures { let all = read_base encoding V.codec low.now count bytes.now in
         let read = read_where (are_entries settings.now (V.is_short settings.now)) all in
         IfOk result (λ found. MatchOption found (read ≡ None) (λ p. read ≡ Some (p.0, p.1.now))) }
 {
-    match spelling {
-        Spelling::Whole => read_whole(alloc, count, bytes, settings),
-        Spelling::Shared => read_shared(alloc, low, count, bytes, settings),
+    match encoding {
+        KeyEncoding::Whole => read_whole(alloc, count, bytes, settings),
+        KeyEncoding::PrefixCompressed => read_shared(alloc, low, count, bytes, settings),
     }
 }
 
@@ -206,11 +206,11 @@ fn read_run<'a, V: FrameCell>(
 // them.
 fn read_full<'a, V: FrameCell>(
     alloc: Global,
-    spelling: Spelling,
+    encoding: KeyEncoding,
     bytes: &'a [u8],
     settings: &Settings,
 ) -> Result<Option<(Key<Global>, Base<V, Global>, &'a [u8])>, AllocError>
-    ensures { let all = (full spelling V.codec).read bytes.now in
+    ensures { let all = (full encoding V.codec).read bytes.now in
         let read = read_where (λ p. is_full settings.now (V.is_short settings.now) p.0 p.1) all in
         IfOk result
         (λ found. MatchOption found (read ≡ None) (λ p. read ≡ Some ((p.0, p.1), p.2.now))) }
@@ -221,7 +221,7 @@ fn read_full<'a, V: FrameCell>(
     let Some((count, rest)) = read_length(rest) else {
         return Ok(None);
     };
-    let Some((base, rest)) = read_base(alloc, spelling, low, count, rest, settings)? else {
+    let Some((base, rest)) = read_base(alloc, encoding, low, count, rest, settings)? else {
         return Ok(None);
     };
     Ok(Some((Key::from_bytes(alloc, low)?, base, rest)))
@@ -230,20 +230,20 @@ fn read_full<'a, V: FrameCell>(
 // `read_full`, if the version knows the key encoding.
 fn read_known<'a, V: FrameCell>(
     alloc: Global,
-    spelling: Spelling,
+    encoding: KeyEncoding,
     bytes: &'a [u8],
     format: &Format,
 ) -> Result<Option<(Key<Global>, Base<V, Global>, &'a [u8])>, AllocError>
     ensures { let s = format.now.settings in let test =
-        λ (p : Bytes × Pairs V). is_known format.now.version spelling
+        λ (p : Bytes × Pairs V). is_known format.now.version encoding
         && is_full s (V.is_short s) p.0 p.1 in
-        let read = read_where test ((full spelling V.codec).read bytes.now) in IfOk result
+        let read = read_where test ((full encoding V.codec).read bytes.now) in IfOk result
         (λ found. MatchOption found (read ≡ None) (λ p. read ≡ Some ((p.0, p.1), p.2.now))) }
 {
-    if !format.knows(spelling) {
+    if !format.knows(encoding) {
         return Ok(None);
     }
-    read_full(alloc, spelling, bytes, &format.settings)
+    read_full(alloc, encoding, bytes, &format.settings)
 }
 
 // Decodes the run at the front, if a frame may contain it, and returns it with the bytes after it.
@@ -269,25 +269,25 @@ fn read_delta<'a, V: FrameCell>(
 // Decodes a leaf's full image with this key encoding.
 fn read_leaf<'a>(
     alloc: Global,
-    spelling: Spelling,
+    encoding: KeyEncoding,
     pid: Pid,
     bytes: &'a [u8],
     format: &Format,
 ) -> Result<Option<(Frame, &'a [u8])>, AllocError>
     ensures { let content =
-        read_as (λ p. FullLeaf spelling p.0 p.1) ((full spelling value_cell).read bytes.now) in
+        read_as (λ p. FullLeaf encoding p.0 p.1) ((full encoding value_cell).read bytes.now) in
         let read =
         read_as (λ content. record { pid = pid; content = content })
         (read_where (is_allowed format.now) content) in
         IfOk result
         (λ found. MatchOption found (read ≡ None) (λ p. read ≡ Some (frame_of p.0, p.1.now))) }
 {
-    let Some((low, base, rest)) = read_known(alloc, spelling, bytes, format)? else {
+    let Some((low, base, rest)) = read_known(alloc, encoding, bytes, format)? else {
         return Ok(None);
     };
     let frame = Frame::FullLeaf {
         pid,
-        spelling,
+        encoding,
         low,
         base,
     };
@@ -297,25 +297,25 @@ fn read_leaf<'a>(
 // Decodes an index page's full image with this key encoding.
 fn read_index<'a>(
     alloc: Global,
-    spelling: Spelling,
+    encoding: KeyEncoding,
     pid: Pid,
     bytes: &'a [u8],
     format: &Format,
 ) -> Result<Option<(Frame, &'a [u8])>, AllocError>
     ensures { let content =
-        read_as (λ p. FullIndex spelling p.0 p.1) ((full spelling pid_cell).read bytes.now) in
+        read_as (λ p. FullIndex encoding p.0 p.1) ((full encoding pid_cell).read bytes.now) in
         let read =
         read_as (λ content. record { pid = pid; content = content })
         (read_where (is_allowed format.now) content) in
         IfOk result
         (λ found. MatchOption found (read ≡ None) (λ p. read ≡ Some (frame_of p.0, p.1.now))) }
 {
-    let Some((low, base, rest)) = read_known(alloc, spelling, bytes, format)? else {
+    let Some((low, base, rest)) = read_known(alloc, encoding, bytes, format)? else {
         return Ok(None);
     };
     let frame = Frame::FullIndex {
         pid,
-        spelling,
+        encoding,
         low,
         base,
     };
@@ -337,14 +337,14 @@ fn read_content<'a>(
         (λ found. MatchOption found (read ≡ None) (λ p. read ≡ Some (frame_of p.0, p.1.now))) }
 {
     match kind {
-        FULL_LEAF => read_leaf(alloc, Spelling::Whole, pid, bytes, format),
+        FULL_LEAF => read_leaf(alloc, KeyEncoding::Whole, pid, bytes, format),
         DELTA_LEAF => {
             let Some((run, rest)) = read_delta(alloc, bytes, &format.settings)? else {
                 return Ok(None);
             };
             Ok(Some((Frame::DeltaLeaf { pid, run }, rest)))
         }
-        FULL_INDEX => read_index(alloc, Spelling::Whole, pid, bytes, format),
+        FULL_INDEX => read_index(alloc, KeyEncoding::Whole, pid, bytes, format),
         DELTA_INDEX => {
             let Some((run, rest)) = read_delta(alloc, bytes, &format.settings)? else {
                 return Ok(None);
@@ -352,8 +352,8 @@ fn read_content<'a>(
             Ok(Some((Frame::DeltaIndex { pid, run }, rest)))
         }
         FREE => Ok(Some((Frame::Free { pid }, bytes))),
-        SHARED_LEAF => read_leaf(alloc, Spelling::Shared, pid, bytes, format),
-        SHARED_INDEX => read_index(alloc, Spelling::Shared, pid, bytes, format),
+        SHARED_LEAF => read_leaf(alloc, KeyEncoding::PrefixCompressed, pid, bytes, format),
+        SHARED_INDEX => read_index(alloc, KeyEncoding::PrefixCompressed, pid, bytes, format),
         _ => Ok(None),
     }
 }

@@ -5,15 +5,15 @@ ghost use Rattle.keys.specs.Bytes.{Bytes, Pairs, Changes};
 ghost use Rattle.std.specs.Ordering.{is_lt};
 ghost use Rattle.keys.specs.Cells.{read_where, counted};
 ghost use Rattle.keys.specs.Order.{order};
-ghost use Rattle.frame_codec.specs.declared.format.Spelling.TheVariants.{Shared};
+ghost use Rattle.frame_codec.specs.declared.format.KeyEncoding.TheVariants.{PrefixCompressed};
 ghost use Rattle.frame_codec.specs.Codecs.{both, read_each, sharing};
 ghost use Rattle.frame_codec.specs.Frame as said;
 ghost use Rattle.frame_codec.specs.Frame.{read_base, full, delta, bytes_of, is_key, are_entries, is_full, is_run, is_known, is_allowed};
 ghost use Rattle.frame_codec.specs.Reading.{read_content, read_frame};
 ghost use Rattle.frame_codec.specs.Skimmed.{kind_of, IsSkimmed, is_above};
 
-use crate::cell::{FrameCell, Spelled};
-use crate::format::{Format, Spelling};
+use crate::cell::{FrameCell, FrameItem};
+use crate::format::{Format, KeyEncoding};
 use crate::kinds::{
     DELTA_INDEX, DELTA_LEAF, FREE, FULL_INDEX, FULL_LEAF, SHARED_INDEX, SHARED_LEAF,
 };
@@ -59,7 +59,10 @@ fn is_above(last: Option<&[u8]>, key: &[u8]) -> bool
 }
 
 // The key of the base entry or change at the front, if a frame may contain it, with the bytes after the entry.
-fn skip_entry<'a, C: Spelled>(bytes: &'a [u8], settings: &Settings) -> Option<(&'a [u8], &'a [u8])>
+fn skip_entry<'a, C: FrameItem>(
+    bytes: &'a [u8],
+    settings: &Settings,
+) -> Option<(&'a [u8], &'a [u8])>
     ensures { let read =
         read_where (λ e. is_key settings.now e.0 && C.is_short settings.now e.1)
         ((both counted C.codec).read bytes.now) in
@@ -73,7 +76,7 @@ fn skip_entry<'a, C: Spelled>(bytes: &'a [u8], settings: &Settings) -> Option<(&
 
 /// The total number of bytes in the keys of `count` entries or changes at the front, if a frame may contain these, with
 /// the bytes after them. With this size, a base is allocated at once, and only for entries that exist.
-pub(crate) fn skim_entries<'a, C: Spelled>(
+pub(crate) fn skim_entries<'a, C: FrameItem>(
     count: usize,
     bytes: &'a [u8],
     settings: &Settings,
@@ -104,7 +107,7 @@ pub(crate) fn skim_entries<'a, C: Spelled>(
 // Like `skip_entry`, for a prefix-compressed entry. `last` is the previous key, and becomes the entry's key. Returns
 // whether the key is above the previous one, with the bytes after the entry. If there is no such entry, `last` is
 // unspecified.
-fn skip_shared<'a, C: Spelled>(
+fn skip_shared<'a, C: FrameItem>(
     last: &mut LastKey,
     bytes: &'a [u8],
     settings: &Settings,
@@ -122,13 +125,13 @@ fn skip_shared<'a, C: Spelled>(
 }
 
 /// Like `skim_entries`, for prefix-compressed entries under this low key. Copies at most as many bytes as it reads.
-pub(crate) fn skim_shared<'a, C: Spelled>(
+pub(crate) fn skim_shared<'a, C: FrameItem>(
     low: &[u8],
     count: usize,
     bytes: &'a [u8],
     settings: &Settings,
 ) -> Option<(usize, &'a [u8])>
-    ensures { let all = read_base Shared C.codec low.now count bytes.now in
+    ensures { let all = read_base PrefixCompressed C.codec low.now count bytes.now in
         let read = read_where (are_entries settings.now (C.is_short settings.now)) all in
         MatchOption result (read ≡ None) (λ p. (es : Pairs C) × (read ≡ Some (es, p.1.now))) }
 {
@@ -151,56 +154,56 @@ pub(crate) fn skim_shared<'a, C: Spelled>(
 
 // Like `skim_entries`, for entries of a base with this key encoding.
 fn skim_base<'a, V: FrameCell>(
-    spelling: Spelling,
+    encoding: KeyEncoding,
     low: &[u8],
     count: usize,
     bytes: &'a [u8],
     settings: &Settings,
 ) -> Option<(usize, &'a [u8])>
-    ensures { let all = read_base spelling V.codec low.now count bytes.now in
+    ensures { let all = read_base encoding V.codec low.now count bytes.now in
         let read = read_where (are_entries settings.now (V.is_short settings.now)) all in
         MatchOption result (read ≡ None) (λ p. (es : Pairs V) × (read ≡ Some (es, p.1.now))) }
 {
-    match spelling {
-        Spelling::Whole => skim_entries::<V>(count, bytes, settings),
-        Spelling::Shared => skim_shared::<V>(low, count, bytes, settings),
+    match encoding {
+        KeyEncoding::Whole => skim_entries::<V>(count, bytes, settings),
+        KeyEncoding::PrefixCompressed => skim_shared::<V>(low, count, bytes, settings),
     }
 }
 
 // The bytes after the low key and the base at the front, if a frame may contain them.
 fn skim_full<'a, V: FrameCell>(
-    spelling: Spelling,
+    encoding: KeyEncoding,
     bytes: &'a [u8],
     settings: &Settings,
 ) -> Option<&'a [u8]>
-    ensures { let all = (full spelling V.codec).read bytes.now in
+    ensures { let all = (full encoding V.codec).read bytes.now in
         let read = read_where (λ p. is_full settings.now (V.is_short settings.now) p.0 p.1) all in
         MatchOption result (read ≡ None)
         (λ rest. (p : Bytes × Pairs V) × (read ≡ Some (p, rest.now))) }
 {
     let (low, rest) = read_key(bytes, settings)?;
     let (count, rest) = read_length(rest)?;
-    let (_key_bytes, rest) = skim_base::<V>(spelling, low, count, rest, settings)?;
+    let (_key_bytes, rest) = skim_base::<V>(encoding, low, count, rest, settings)?;
     Some(rest)
 }
 
 // `skim_full`, if the version knows the key encoding.
 fn skim_known<'a, V: FrameCell>(
-    spelling: Spelling,
+    encoding: KeyEncoding,
     bytes: &'a [u8],
     format: &Format,
 ) -> Option<&'a [u8]>
     ensures { let s = format.now.settings in let test =
-        λ (p : Bytes × Pairs V). is_known format.now.version spelling
+        λ (p : Bytes × Pairs V). is_known format.now.version encoding
         && is_full s (V.is_short s) p.0 p.1 in
-        let read = read_where test ((full spelling V.codec).read bytes.now) in
+        let read = read_where test ((full encoding V.codec).read bytes.now) in
         MatchOption result (read ≡ None)
         (λ rest. (p : Bytes × Pairs V) × (read ≡ Some (p, rest.now))) }
 {
-    if !format.knows(spelling) {
+    if !format.knows(encoding) {
         return None;
     }
-    skim_full::<V>(spelling, bytes, &format.settings)
+    skim_full::<V>(encoding, bytes, &format.settings)
 }
 
 // The bytes after the run at the front, if a frame may contain it.
@@ -228,7 +231,7 @@ fn skim_content<'a>(number: u8, bytes: &'a [u8], format: &Format) -> Option<(Fra
 {
     match number {
         FULL_LEAF => {
-            let rest = skim_known::<Value<Global>>(Spelling::Whole, bytes, format);
+            let rest = skim_known::<Value<Global>>(KeyEncoding::Whole, bytes, format);
             with_kind(FrameKind::FullLeaf, rest)
         }
         DELTA_LEAF => {
@@ -236,7 +239,7 @@ fn skim_content<'a>(number: u8, bytes: &'a [u8], format: &Format) -> Option<(Fra
             with_kind(FrameKind::DeltaLeaf, rest)
         }
         FULL_INDEX => {
-            let rest = skim_known::<Pid>(Spelling::Whole, bytes, format);
+            let rest = skim_known::<Pid>(KeyEncoding::Whole, bytes, format);
             with_kind(FrameKind::FullIndex, rest)
         }
         DELTA_INDEX => {
@@ -245,11 +248,11 @@ fn skim_content<'a>(number: u8, bytes: &'a [u8], format: &Format) -> Option<(Fra
         }
         FREE => Some((FrameKind::Free, bytes)),
         SHARED_LEAF => {
-            let rest = skim_known::<Value<Global>>(Spelling::Shared, bytes, format);
+            let rest = skim_known::<Value<Global>>(KeyEncoding::PrefixCompressed, bytes, format);
             with_kind(FrameKind::FullLeaf, rest)
         }
         SHARED_INDEX => {
-            let rest = skim_known::<Pid>(Spelling::Shared, bytes, format);
+            let rest = skim_known::<Pid>(KeyEncoding::PrefixCompressed, bytes, format);
             with_kind(FrameKind::FullIndex, rest)
         }
         _ => None,

@@ -6,16 +6,16 @@ ghost use Rattle.keys.specs.Cells.{counted};
 ghost use Rattle.keys.specs.Limits.{first_bad_field};
 ghost use Rattle.keys.specs.Sizes.{pid_size};
 ghost use Rattle.frame_codec.specs.declared.format.Format.{Format};
-ghost use Rattle.frame_codec.specs.declared.format.Spelling.TheVariants.{Shared};
-ghost use Rattle.frame_codec.specs.Appended.{HasRoomFor, IsAppended, IsCount, AreSpellable};
+ghost use Rattle.frame_codec.specs.declared.format.KeyEncoding.TheVariants.{PrefixCompressed};
+ghost use Rattle.frame_codec.specs.Appended.{HasRoomFor, IsAppended, IsCount, AreEncodable};
 ghost use Rattle.frame_codec.specs.Codecs.{both, flagged};
-ghost use Rattle.frame_codec.specs.Frame.{spell_base, full, delta, header, bytes_of, is_pid, is_frame};
+ghost use Rattle.frame_codec.specs.Frame.{encode_base, full, delta, header, bytes_of, is_pid, is_frame};
 ghost use Rattle.frame_codec.specs.Frame.Content.{FullLeaf, DeltaLeaf, FullIndex, DeltaIndex, Free};
 ghost use Rattle.frame_codec.specs.Shown.{frame_of};
-ghost use Rattle.frame_codec.specs.Sized.{IsSized, HasWords, framed};
+ghost use Rattle.frame_codec.specs.Sized.{IsSized, FitsU64, framed};
 
 use crate::cell::{FrameCell, append_flagged, flagged_len};
-use crate::format::Spelling;
+use crate::format::KeyEncoding;
 use crate::frame::Frame;
 use crate::kinds::{DELTA_INDEX, DELTA_LEAF, FREE, index_kind, leaf_kind};
 use crate::parts::{
@@ -27,50 +27,50 @@ use std::alloc::{AllocError, Global};
 
 // The size of a base's entries with whole keys.
 fn whole_len<V: FrameCell>(base: &Base<V, Global>) -> usize
-    requires small { AreSpellable V.codec base.now }
-    requires few { length (flat_map (both counted V.codec).spell base.now) < 2 ^ 31 }
-    ensures { result ≡ length (flat_map (both counted V.codec).spell base.now) }
+    requires small { AreEncodable V.codec base.now }
+    requires few { length (flat_map (both counted V.codec).encode base.now) < 2 ^ 31 }
+    ensures { result ≡ length (flat_map (both counted V.codec).encode base.now) }
 {
     let mut len: usize = 0;
     for at in 0..base.len() {
-        len += 2 + base.key(at).len() + base.cell(at).spelled_len();
+        len += 2 + base.key(at).len() + base.cell(at).encoded_len();
     }
     len
 }
 
 // The size of a base's entries with prefix compression.
 fn shared_len<V: FrameCell>(low: &[u8], base: &Base<V, Global>) -> usize
-    requires small { AreSpellable V.codec base.now }
-    requires few { length (spell_base Shared V.codec low.now base.now) < 2 ^ 31 }
-    ensures { result ≡ length (spell_base Shared V.codec low.now base.now) }
+    requires small { AreEncodable V.codec base.now }
+    requires few { length (encode_base PrefixCompressed V.codec low.now base.now) < 2 ^ 31 }
+    ensures { result ≡ length (encode_base PrefixCompressed V.codec low.now base.now) }
 {
     let mut len: usize = 0;
     let mut before = low;
     for at in 0..base.len() {
         let key = base.key(at);
         let cell = base.cell(at);
-        len += sharing_len(before, key) + cell.spelled_len();
+        len += sharing_len(before, key) + cell.encoded_len();
         before = key;
     }
     len
 }
 
 // The size of a base's entries with this key encoding.
-fn base_len<V: FrameCell>(spelling: Spelling, low: &[u8], base: &Base<V, Global>) -> usize
-    requires small { AreSpellable V.codec base.now }
-    requires few { length (spell_base spelling V.codec low.now base.now) < 2 ^ 31 }
-    ensures { result ≡ length (spell_base spelling V.codec low.now base.now) }
+fn base_len<V: FrameCell>(encoding: KeyEncoding, low: &[u8], base: &Base<V, Global>) -> usize
+    requires small { AreEncodable V.codec base.now }
+    requires few { length (encode_base encoding V.codec low.now base.now) < 2 ^ 31 }
+    ensures { result ≡ length (encode_base encoding V.codec low.now base.now) }
 {
-    match spelling {
-        Spelling::Whole => whole_len(base),
-        Spelling::Shared => shared_len(low, base),
+    match encoding {
+        KeyEncoding::Whole => whole_len(base),
+        KeyEncoding::PrefixCompressed => shared_len(low, base),
     }
 }
 
 fn run_len<V: FrameCell>(run: &Run<V, Global>) -> usize
-    requires small { AreSpellable (flagged V.codec) run.now }
-    requires few { length (flat_map (both counted (flagged V.codec)).spell run.now) < 2 ^ 31 }
-    ensures { result ≡ length (flat_map (both counted (flagged V.codec)).spell run.now) }
+    requires small { AreEncodable (flagged V.codec) run.now }
+    requires few { length (flat_map (both counted (flagged V.codec)).encode run.now) < 2 ^ 31 }
+    ensures { result ≡ length (flat_map (both counted (flagged V.codec)).encode run.now) }
 {
     let mut len: usize = 0;
     for at in 0..run.len() {
@@ -81,9 +81,9 @@ fn run_len<V: FrameCell>(run: &Run<V, Global>) -> usize
 
 // Appends the entries of a base in order, with whole keys. There is room for them.
 fn append_whole<V: FrameCell>(base: &Base<V, Global>, out: &mut Vec<u8>)
-    requires small { AreSpellable V.codec base.now }
-    requires room { HasRoomFor out.old (length (flat_map (both counted V.codec).spell base.now)) }
-    ensures bytes { IsAppended out.old out.new (flat_map (both counted V.codec).spell base.now) }
+    requires small { AreEncodable V.codec base.now }
+    requires room { HasRoomFor out.old (length (flat_map (both counted V.codec).encode base.now)) }
+    ensures bytes { IsAppended out.old out.new (flat_map (both counted V.codec).encode base.now) }
     ensures words { list_all (λ e. V.is_word e.1) base.now ≡ true }
 {
     for at in 0..base.len() {
@@ -95,9 +95,9 @@ fn append_whole<V: FrameCell>(base: &Base<V, Global>, out: &mut Vec<u8>)
 
 // Appends the entries of a base in order, with prefix compression. There is room for them.
 fn append_shared<V: FrameCell>(low: &[u8], base: &Base<V, Global>, out: &mut Vec<u8>)
-    requires small { AreSpellable V.codec base.now }
-    requires room { HasRoomFor out.old (length (spell_base Shared V.codec low.now base.now)) }
-    ensures bytes { IsAppended out.old out.new (spell_base Shared V.codec low.now base.now) }
+    requires small { AreEncodable V.codec base.now }
+    requires room { HasRoomFor out.old (length (encode_base PrefixCompressed V.codec low.now base.now)) }
+    ensures bytes { IsAppended out.old out.new (encode_base PrefixCompressed V.codec low.now base.now) }
     ensures words { list_all (λ e. V.is_word e.1) base.now ≡ true }
 {
     let mut before = low;
@@ -112,29 +112,29 @@ fn append_shared<V: FrameCell>(low: &[u8], base: &Base<V, Global>, out: &mut Vec
 
 // Appends the entries of a base in order, with this key encoding. There is room for them.
 fn append_entries<V: FrameCell>(
-    spelling: Spelling,
+    encoding: KeyEncoding,
     low: &[u8],
     base: &Base<V, Global>,
     out: &mut Vec<u8>,
 )
-    requires small { AreSpellable V.codec base.now }
-    requires room { HasRoomFor out.old (length (spell_base spelling V.codec low.now base.now)) }
-    ensures bytes { IsAppended out.old out.new (spell_base spelling V.codec low.now base.now) }
+    requires small { AreEncodable V.codec base.now }
+    requires room { HasRoomFor out.old (length (encode_base encoding V.codec low.now base.now)) }
+    ensures bytes { IsAppended out.old out.new (encode_base encoding V.codec low.now base.now) }
     ensures words { list_all (λ e. V.is_word e.1) base.now ≡ true }
 {
-    match spelling {
-        Spelling::Whole => append_whole(base, out),
-        Spelling::Shared => append_shared(low, base, out),
+    match encoding {
+        KeyEncoding::Whole => append_whole(base, out),
+        KeyEncoding::PrefixCompressed => append_shared(low, base, out),
     }
 }
 
 // Appends the changes of a run in order. There is room for them.
 fn append_changes<V: FrameCell>(run: &Run<V, Global>, out: &mut Vec<u8>)
-    requires small { AreSpellable (flagged V.codec) run.now }
+    requires small { AreEncodable (flagged V.codec) run.now }
     requires room { HasRoomFor out.old
-        (length (flat_map (both counted (flagged V.codec)).spell run.now)) }
+        (length (flat_map (both counted (flagged V.codec)).encode run.now)) }
     ensures bytes { IsAppended out.old out.new
-        (flat_map (both counted (flagged V.codec)).spell run.now) }
+        (flat_map (both counted (flagged V.codec)).encode run.now) }
     ensures words { list_all (λ e. of_cell V.is_word e.1) run.now ≡ true }
 {
     for at in 0..run.len() {
@@ -149,7 +149,7 @@ fn append_changes<V: FrameCell>(run: &Run<V, Global>, out: &mut Vec<u8>)
 fn begin_frame(kind: u8, pid: Pid, len: usize, out: &mut Vec<u8>) -> Result<(), AllocError>
     requires { len < 2 ^ 31 }
     ensures ok { OnOk result
-        (IsAppended out.old out.new (header.spell ((kind, pid_size + len), pid))) }
+        (IsAppended out.old out.new (header.encode ((kind, pid_size + len), pid))) }
     ensures room { OnOk result (HasRoomFor out.new len) }
     ensures err { OnErr result (out.new.items ≡ out.old.items) }
     ensures word { OnOk result (is_pid pid ≡ true) }
@@ -166,17 +166,17 @@ fn begin_frame(kind: u8, pid: Pid, len: usize, out: &mut Vec<u8>) -> Result<(), 
 fn write_full<V: FrameCell>(
     kind: u8,
     pid: Pid,
-    spelling: Spelling,
+    encoding: KeyEncoding,
     low: &[u8],
     base: &Base<V, Global>,
     out: &mut Vec<u8>,
 ) -> Result<(), AllocError>
     requires low { IsCount (length low.now) }
     requires count { IsCount (length base.now) }
-    requires small { AreSpellable V.codec base.now }
-    requires few { length ((full spelling V.codec).spell (low.now, base.now)) < 2 ^ 31 }
+    requires small { AreEncodable V.codec base.now }
+    requires few { length ((full encoding V.codec).encode (low.now, base.now)) < 2 ^ 31 }
     ensures ok { OnOk result (out.new.items ≡
-        out.old.items ++ framed kind pid ((full spelling V.codec).spell (low.now, base.now))) }
+        out.old.items ++ framed kind pid ((full encoding V.codec).encode (low.now, base.now))) }
     ensures err { OnErr result (out.new.items ≡ out.old.items) }
     ensures words { OnOk result
         ((is_pid pid ≡ true) × (list_all (λ e. V.is_word e.1) base.now ≡ true)) }
@@ -184,12 +184,12 @@ fn write_full<V: FrameCell>(
     begin_frame(
         kind,
         pid,
-        4 + low.len() + base_len(spelling, low, base),
+        4 + low.len() + base_len(encoding, low, base),
         out,
     )?;
     append_counted(out, low);
     append_length(out, base.len());
-    append_entries(spelling, low, base, out);
+    append_entries(encoding, low, base, out);
     Ok(())
 }
 
@@ -201,10 +201,10 @@ fn write_delta<V: FrameCell>(
     out: &mut Vec<u8>,
 ) -> Result<(), AllocError>
     requires count { IsCount (length run.now) }
-    requires small { AreSpellable (flagged V.codec) run.now }
-    requires few { length ((delta V.codec).spell run.now) < 2 ^ 31 }
+    requires small { AreEncodable (flagged V.codec) run.now }
+    requires few { length ((delta V.codec).encode run.now) < 2 ^ 31 }
     ensures ok { OnOk result
-        (out.new.items ≡ out.old.items ++ framed kind pid ((delta V.codec).spell run.now)) }
+        (out.new.items ≡ out.old.items ++ framed kind pid ((delta V.codec).encode run.now)) }
     ensures err { OnErr result (out.new.items ≡ out.old.items) }
     ensures words { OnOk result
         ((is_pid pid ≡ true) × (list_all (λ e. of_cell V.is_word e.1) run.now ≡ true)) }
@@ -220,19 +220,19 @@ fn write_delta<V: FrameCell>(
 /// `Ok`, all page ids in the frame are known to have 64 bits.
 pub fn write_full_leaf(
     pid: Pid,
-    spelling: Spelling,
+    encoding: KeyEncoding,
     low: &[u8],
     base: &Base<Value<Global>, Global>,
     out: &mut Vec<u8>,
 ) -> Result<(), AllocError>
-    requires { IsSized (FullLeaf spelling low.now base.now) }
+    requires { IsSized (FullLeaf encoding low.now base.now) }
     ensures ok { OnOk result (out.new.items ≡ out.old.items
-        ++ bytes_of (record { pid = pid; content = FullLeaf spelling low.now base.now })) }
+        ++ bytes_of (record { pid = pid; content = FullLeaf encoding low.now base.now })) }
     ensures words { OnOk result
-        (HasWords (record { pid = pid; content = FullLeaf spelling low.now base.now })) }
+        (FitsU64 (record { pid = pid; content = FullLeaf encoding low.now base.now })) }
     ensures err { OnErr result (out.new.items ≡ out.old.items) }
 {
-    write_full(leaf_kind(spelling), pid, spelling, low, base, out)
+    write_full(leaf_kind(encoding), pid, encoding, low, base, out)
 }
 
 /// Appends the frame of a run that was prepended to a leaf.
@@ -244,7 +244,7 @@ pub fn write_delta_leaf(
     requires { IsSized (DeltaLeaf run.now) }
     ensures ok { OnOk result (out.new.items ≡
         out.old.items ++ bytes_of (record { pid = pid; content = DeltaLeaf run.now })) }
-    ensures words { OnOk result (HasWords (record { pid = pid; content = DeltaLeaf run.now })) }
+    ensures words { OnOk result (FitsU64 (record { pid = pid; content = DeltaLeaf run.now })) }
     ensures err { OnErr result (out.new.items ≡ out.old.items) }
 {
     write_delta(DELTA_LEAF, pid, run, out)
@@ -253,19 +253,19 @@ pub fn write_delta_leaf(
 /// Appends a full image of an index page: this base under this low key, with this key encoding.
 pub fn write_full_index(
     pid: Pid,
-    spelling: Spelling,
+    encoding: KeyEncoding,
     low: &[u8],
     base: &Base<Pid, Global>,
     out: &mut Vec<u8>,
 ) -> Result<(), AllocError>
-    requires { IsSized (FullIndex spelling low.now base.now) }
+    requires { IsSized (FullIndex encoding low.now base.now) }
     ensures ok { OnOk result (out.new.items ≡ out.old.items
-        ++ bytes_of (record { pid = pid; content = FullIndex spelling low.now base.now })) }
+        ++ bytes_of (record { pid = pid; content = FullIndex encoding low.now base.now })) }
     ensures words { OnOk result
-        (HasWords (record { pid = pid; content = FullIndex spelling low.now base.now })) }
+        (FitsU64 (record { pid = pid; content = FullIndex encoding low.now base.now })) }
     ensures err { OnErr result (out.new.items ≡ out.old.items) }
 {
-    write_full(index_kind(spelling), pid, spelling, low, base, out)
+    write_full(index_kind(encoding), pid, encoding, low, base, out)
 }
 
 /// Appends the frame of a run that was prepended to an index page.
@@ -277,7 +277,7 @@ pub fn write_delta_index(
     requires { IsSized (DeltaIndex run.now) }
     ensures ok { OnOk result (out.new.items ≡
         out.old.items ++ bytes_of (record { pid = pid; content = DeltaIndex run.now })) }
-    ensures words { OnOk result (HasWords (record { pid = pid; content = DeltaIndex run.now })) }
+    ensures words { OnOk result (FitsU64 (record { pid = pid; content = DeltaIndex run.now })) }
     ensures err { OnErr result (out.new.items ≡ out.old.items) }
 {
     write_delta(DELTA_INDEX, pid, run, out)
@@ -287,7 +287,7 @@ pub fn write_delta_index(
 pub fn write_free(pid: Pid, out: &mut Vec<u8>) -> Result<(), AllocError>
     ensures ok { OnOk result
         (out.new.items ≡ out.old.items ++ bytes_of (record { pid = pid; content = Free })) }
-    ensures words { OnOk result (HasWords (record { pid = pid; content = Free })) }
+    ensures words { OnOk result (FitsU64 (record { pid = pid; content = Free })) }
     ensures err { OnErr result (out.new.items ≡ out.old.items) }
 {
     begin_frame(FREE, pid, 0, out)
@@ -303,17 +303,17 @@ pub fn write_frame(frame: &Frame, out: &mut Vec<u8>) -> Result<(), AllocError>
     match frame {
         Frame::FullLeaf {
             pid,
-            spelling,
+            encoding,
             low,
             base,
-        } => write_full_leaf(*pid, *spelling, low.as_bytes(), base, out),
+        } => write_full_leaf(*pid, *encoding, low.as_bytes(), base, out),
         Frame::DeltaLeaf { pid, run } => write_delta_leaf(*pid, run, out),
         Frame::FullIndex {
             pid,
-            spelling,
+            encoding,
             low,
             base,
-        } => write_full_index(*pid, *spelling, low.as_bytes(), base, out),
+        } => write_full_index(*pid, *encoding, low.as_bytes(), base, out),
         Frame::DeltaIndex { pid, run } => write_delta_index(*pid, run, out),
         Frame::Free { pid } => write_free(*pid, out),
     }

@@ -5,7 +5,7 @@ use Rattle.std.specs.Map.{keys_of}
 use Rattle.std.proofs.Common.{refl, arith, Less, inl, inr}
 use Rattle.std.proofs.lemmas.List.{length-map}
 use Rattle.std.proofs.lemmas.Option.{slice_get-get_or, slice_get_within}
-use Rattle.keys.specs.Bytes.{Bytes, Names}
+use Rattle.keys.specs.Bytes.{Bytes, Separators}
 use Rattle.keys.specs.Order.{order, AreRisingKeys}
 use Rattle.keys.proofs.MapLemmas.{flipped_less, order_itself}
 use Rattle.page_search.specs.Above.{above}
@@ -41,36 +41,36 @@ module _ (k : Bytes) where
 
   -- ---- the entries after the place
 
-  following : (e : Bytes × ℕ) (es : Names) (n : ℕ) → AreParted (keys_of (e ∷ es)) (suc n) → AreParted (keys_of es) n
+  following : (e : Bytes × ℕ) (es : Separators) (n : ℕ) → AreParted (keys_of (e ∷ es)) (suc n) → AreParted (keys_of es) n
   following e es n h = record {
     within = let w = h.within in omega (arith, w);
     before = λ m i l p. h.before (suc m) i (omega (arith, l)) p;
     from = λ m i l p. h.from (suc m) i (omega (arith, l)) p;
   }
 
-  all_after : (e : Bytes × ℕ) (es : Names) → AreParted (keys_of (e ∷ es)) zero → AreParted (keys_of es) zero
+  all_after : (e : Bytes × ℕ) (es : Separators) → AreParted (keys_of (e ∷ es)) zero → AreParted (keys_of es) zero
   all_after e es h = record {
     within = omega arith;
     before = λ m i l p. absurd (omega (arith, l));
     from = λ m i l p. h.from (suc m) i (omega arith) p;
   }
 
-  first_is_above : (e : Bytes × ℕ) (es : Names) → AreParted (keys_of (e ∷ es)) zero → is_lt (order k e.0) ≡ true
+  first_is_above : (e : Bytes × ℕ) (es : Separators) → AreParted (keys_of (e ∷ es)) zero → is_lt (order k e.0) ≡ true
   first_is_above e es h = h.from zero e.0 (omega arith) refl
 
-  first_is_up_to : (e : Bytes × ℕ) (es : Names) (n : ℕ) → AreParted (keys_of (e ∷ es)) (suc n) → is_lt (order k e.0) ≡ false
+  first_is_up_to : (e : Bytes × ℕ) (es : Separators) (n : ℕ) → AreParted (keys_of (e ∷ es)) (suc n) → is_lt (order k e.0) ≡ false
   first_is_up_to e es n h = h.before zero e.0 (omega arith) refl
 
-  above-next : (es : Names) (n : ℕ) → AreParted (keys_of es) n → above k es ≡ slice_get es n
+  above-next : (es : Separators) (n : ℕ) → AreParted (keys_of es) n → above k es ≡ slice_get es n
   above-next [] n h = refl
   above-next (e ∷ es) zero h = rw (first_is_above e es h) refl
   above-next (e ∷ es) (suc n) h = rw (first_is_up_to e es n h) (above-next es n (following e es n h))
 
-  floor-none : (es : Names) → AreParted (keys_of es) zero → floor k es ≡ None
+  floor-none : (es : Separators) → AreParted (keys_of es) zero → floor k es ≡ None
   floor-none [] h = refl
   floor-none (e ∷ es) h = rw (floor-none es (all_after e es h), first_is_above e es h) refl
 
-  floor-last : (es : Names) (n at : ℕ) → AreParted (keys_of es) n → at + 1 ≡ n → floor k es ≡ slice_get es at
+  floor-last : (es : Separators) (n at : ℕ) → AreParted (keys_of es) n → at + 1 ≡ n → floor k es ≡ slice_get es at
   floor-last es zero at h l = absurd (omega (arith, l))
   floor-last [] (suc n) at h l = absurd (let w = h.within in omega (arith, w))
   floor-last (e ∷ es) (suc n) zero h l =
@@ -84,7 +84,7 @@ module _ (k : Bytes) where
       let there : slice_get es at ≡ Some (slice_index_or es at e) = slice_get-get_or es at e (omega (arith, w, l, length-map es (λ (f : Bytes × ℕ). f.0))) in
       rw (last, there) refl
 
-  counted : (es : Names) (n : ℕ) → AreParted (keys_of es) n → IsCountUpTo k es n
+  counted : (es : Separators) (n : ℕ) → AreParted (keys_of es) n → IsCountUpTo k es n
   counted es n h = record {
     within = let w = h.within in omega (arith, w, length-map es (λ (f : Bytes × ℕ). f.0));
     none = λ z. floor-none es (rw z at h);
@@ -93,8 +93,8 @@ module _ (k : Bytes) where
   }
 
   -- a search that finds the key, or the place where it would go, has found how many there are up to it
-  pub count-there : (es : Names) (at : ℕ) → AreRisingKeys (keys_of es) → slice_get (keys_of es) at ≡ Some k → IsCountUpTo k es (at + 1)
+  pub count-there : (es : Separators) (at : ℕ) → AreRisingKeys (keys_of es) → slice_get (keys_of es) at ≡ Some k → IsCountUpTo k es (at + 1)
   count-there es at r p = counted es (at + 1) (parted-there (keys_of es) at r p)
 
-  pub count-goes_to : (es : Names) (at : ℕ) → KeyGoesTo k (keys_of es) at → IsCountUpTo k es at
+  pub count-goes_to : (es : Separators) (at : ℕ) → KeyGoesTo k (keys_of es) at → IsCountUpTo k es at
   count-goes_to es at g = counted es at (parted-goes_to (keys_of es) at g)

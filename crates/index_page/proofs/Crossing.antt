@@ -8,7 +8,7 @@ use Rattle.std.specs.declared.alloc.Allocator.{Ghosts}
 use Rattle.keys.specs.contracts.value.Value as Value
 use Rattle.keys.proofs.key.Key.TheSendSync as key
 use Rattle.keys.proofs.value.Value.TheSendSync as value
-use Rattle.delta_chain.proofs.Crossing.{LateChain-send, LateChain-sync}
+use Rattle.delta_chain.proofs.Crossing.{LazyChain-send, LazyChain-sync}
 use Rattle.index_page.proofs.index_state.IndexState.TheSendSync as state
 use Rattle.index_page.specs.contracts.in_memory.PageInMemory as PageInMemory
 use Rattle.index_page.specs.contracts.in_memory.PageInMemory.TheInside as held
@@ -19,7 +19,7 @@ use Rattle.index_page.specs.contracts.page.Page.TheInside as inside
 module _ (A : RattleType) (g : Ghosts A.Denot) where
   state_send : IsSend A → Frees g g.dealloc_token → IsSend (State.the_field A g).row
   state_send s f =
-      let values = LateChain-send (Value.the_row A g) A g (value.the_send A g s f) s f in
+      let values = LazyChain-send (Value.the_row A g) A g (value.the_send A g s f) s f in
       enum_send (variants.shape (State.the_type A g)) ((values, tt), ((state.the_send A g s f, tt), tt))
 
   pub PageInMemory-send : IsSend A → Frees g g.dealloc_token → IsSend (PageInMemory.the_row A g)
@@ -30,7 +30,7 @@ module _ (A : RattleType) (g : Ghosts A.Denot) where
 
   state_sync : IsSync A → IsSync (State.the_field A g).row
   state_sync s =
-      let values = LateChain-sync (Value.the_row A g) A g (value.the_sync A g s) s in
+      let values = LazyChain-sync (Value.the_row A g) A g (value.the_sync A g s) s in
       enum_sync (variants.shape (State.the_type A g)) ((values, tt), ((state.the_sync A g s, tt), tt))
 
   pub PageInMemory-sync : IsSync A → IsSync (PageInMemory.the_row A g)

@@ -23,9 +23,9 @@ pub struct ChildList<A: Allocator> {
 impl<A: Allocator> Model for ChildList<A> {
     ghost use Rattle.std.specs.Prelude.{Option};
     ghost use Rattle.std.specs.Option.{option_map};
-    ghost use Rattle.keys.specs.Bytes.{Names};
+    ghost use Rattle.keys.specs.Bytes.{Separators};
 
-    ghost Value = { Option Names };
+    ghost Value = { Option Separators };
 
     ghost view = { λ c. option_map (λ list. list.value) c.listed };
 }

@@ -8,7 +8,7 @@ ghost use Rattle.index_page.specs.Page.{low_of, IsLeaf, IsIndex};
 
 use crate::child_list::ChildList;
 use crate::index_state::IndexState;
-use delta_chain::{Base, Chain, LateChain};
+use delta_chain::{Base, Chain, LazyChain};
 use keys::{Key, Pid, Value};
 use std::alloc::Allocator;
 use std::marker::Model;
@@ -24,7 +24,7 @@ pub struct PageInMemory<A: Allocator> {
 
 #[derive(Drop)]
 enum State<A: Allocator> {
-    Values(LateChain<Value<A>, A>),
+    Values(LazyChain<Value<A>, A>),
     Pids(IndexState<A>),
 }
 
@@ -39,7 +39,7 @@ impl<A: Allocator> Model for PageInMemory<A> {
 
 impl<A: Allocator + Copy> PageInMemory<A> {
     /// Makes a leaf with this low key and these values.
-    pub fn leaf(low: Key<A>, chain: LateChain<Value<A>, A>) -> Self
+    pub fn leaf(low: Key<A>, chain: LazyChain<Value<A>, A>) -> Self
         ensures { result ≡ LeafInMemory low chain }
     {
         PageInMemory {
@@ -67,7 +67,7 @@ impl<A: Allocator + Copy> PageInMemory<A> {
     }
 
     /// Returns the values if this is a leaf.
-    pub fn as_leaf(&self) -> Option<&LateChain<Value<A>, A>>
+    pub fn as_leaf(&self) -> Option<&LazyChain<Value<A>, A>>
         ensures { MatchOption result (IsIndex (page_shown self.now))
             (λ chain. self.now ≡ LeafInMemory (low_of (page_shown self.now)) chain.now) }
     {
@@ -101,7 +101,7 @@ impl<A: Allocator + Copy> PageInMemory<A> {
     }
 
     /// Returns the low key and the values of a leaf. Test with `as_leaf` first.
-    pub fn into_leaf(self) -> (Key<A>, LateChain<Value<A>, A>)
+    pub fn into_leaf(self) -> (Key<A>, LazyChain<Value<A>, A>)
         requires { IsLeaf (page_shown self) }
         ensures { self ≡ LeafInMemory result.0 result.1 }
     {

@@ -1,7 +1,7 @@
 //! Laws about the definitions of `specs/`. Each law is the contract of a function with an empty body.
 ghost use Rattle.std.specs.Prelude.{◌≡◌, ℕ, ◌<◌, true, false, ◌↔◌, Option, map, length, count_by};
 ghost use Rattle.std.specs.Map.{keys_of, values_of};
-ghost use Rattle.keys.specs.Bytes.{Bytes, Names};
+ghost use Rattle.keys.specs.Bytes.{Bytes, Separators};
 ghost use Rattle.keys.specs.Order.{IsRising};
 ghost use Rattle.keys.specs.declared.settings.Settings.{Settings};
 ghost use Rattle.index_page.specs.Page.{Page, first_key};
@@ -24,13 +24,13 @@ pub fn a_page_passes_a_test_where_the_fact_holds<V>()
 /// The children that entries denote have the entries' page ids and low keys, and tile the range from the first key to
 /// the end: each key of that range lies in the range of exactly one child, and any other key in the range of none.
 pub fn children_tile_the_range_of_their_page()
-    ensures pids { (es : Names) (end : Option Bytes) →
+    ensures pids { (es : Separators) (end : Option Bytes) →
         map (λ at. at.pid) (children es end) ≡ values_of es }
-    ensures lows { (es : Names) (end : Option Bytes) →
+    ensures lows { (es : Separators) (end : Option Bytes) →
         map (λ at. at.low) (children es end) ≡ keys_of es }
-    ensures one { (es : Names) (end : Option Bytes) (k : Bytes) → IsRising es → 0 < length es →
+    ensures one { (es : Separators) (end : Option Bytes) (k : Bytes) → IsRising es → 0 < length es →
         is_within (first_key es) end k ≡ true → count_by (is_place_for k) (children es end) ≡ 1 }
-    ensures none { (es : Names) (end : Option Bytes) (k : Bytes) → IsRising es →
+    ensures none { (es : Separators) (end : Option Bytes) (k : Bytes) → IsRising es →
         AreBefore end (keys_of es) → is_within (first_key es) end k ≡ false →
         count_by (is_place_for k) (children es end) ≡ 0 }
 {}

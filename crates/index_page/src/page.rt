@@ -4,7 +4,7 @@ ghost use Rattle.std.specs.List.{filter};
 ghost use Rattle.std.specs.Option.{option_copied, option_map, option_or};
 ghost use Rattle.keys.specs.Bytes.{Bytes};
 ghost use Rattle.keys.specs.Order.{IsRising};
-ghost use Rattle.delta_chain.specs.Late.{seen};
+ghost use Rattle.delta_chain.specs.Lazy.{seen};
 ghost use Rattle.page_search.specs.Floor.{floor};
 ghost use Rattle.index_page.specs.Page.{PageOfKind, bare, low_of, IsLeaf, IsIndex};
 ghost use Rattle.index_page.specs.Page.PageOfKind.{Leaf, Index};
@@ -16,7 +16,7 @@ ghost use Rattle.index_page.specs.Children.{children, is_place_for, child_entrie
 use crate::child_list::{ChildList, child_at, count_up_to, low_key_at};
 use crate::in_memory::PageInMemory;
 use crate::within::{Children, NextChild};
-use delta_chain::{Base, Chain, LateChain};
+use delta_chain::{Base, Chain, LazyChain};
 use keys::{Key, Pid, Value, is_before};
 use std::alloc::Allocator;
 use std::marker::Model;
@@ -63,11 +63,11 @@ impl<A: Allocator + Copy> Page<A> {
     pub fn leaf(low: Key<A>, chain: Chain<Value<A>, A>) -> Self
         ensures { result ≡ Leaf (record { low = low; layers = chain }) }
     {
-        Page::late_leaf(low, LateChain::of(chain))
+        Page::lazy_leaf(low, LazyChain::of(chain))
     }
 
     /// Makes a leaf with this low key and these values, some of whose runs may count as merged into the base.
-    pub fn late_leaf(low: Key<A>, chain: LateChain<Value<A>, A>) -> Self
+    pub fn lazy_leaf(low: Key<A>, chain: LazyChain<Value<A>, A>) -> Self
         ensures { result ≡ Leaf (record { low = low; layers = seen chain }) }
     {
         Page::of_memory(PageInMemory::leaf(low, chain))
@@ -97,7 +97,7 @@ impl<A: Allocator + Copy> Page<A> {
     }
 
     /// Returns the values if this is a leaf.
-    pub fn as_leaf(&self) -> Option<&LateChain<Value<A>, A>>
+    pub fn as_leaf(&self) -> Option<&LazyChain<Value<A>, A>>
         ensures { MatchOption result (IsIndex self.now)
             (λ chain. self.now ≡ Leaf (record { low = low_of self.now; layers = seen chain.now })) }
     {
@@ -121,7 +121,7 @@ impl<A: Allocator + Copy> Page<A> {
     }
 
     /// Returns the low key and the values of a leaf. Test with `as_leaf` first.
-    pub fn into_leaf(self) -> (Key<A>, LateChain<Value<A>, A>)
+    pub fn into_leaf(self) -> (Key<A>, LazyChain<Value<A>, A>)
         requires { IsLeaf self }
         ensures { self ≡ Leaf (record { low = result.0; layers = seen result.1 }) }
     {

@@ -32,11 +32,11 @@ pub(crate) enum NextChild<'a> {
 
 impl<'a, A: Allocator> Model for Children<'a, A> {
     ghost use Rattle.std.specs.Option.{option_copied};
-    ghost use Rattle.keys.specs.Bytes.{Names};
+    ghost use Rattle.keys.specs.Bytes.{Separators};
     ghost use Rattle.index_page.specs.Children.{child_entries};
     ghost use Rattle.index_page.specs.NextChild.{left_with};
 
-    ghost Value = { Names };
+    ghost Value = { Separators };
 
     ghost view = { λ c. left_with c.next (option_copied c.end) (child_entries c.page.now) };
 }

@@ -4,7 +4,7 @@ use Rattle.std.proofs.Math.Nat.{add-mul, add_assoc, div-add-mod', mod-eq_of_lt, 
 use Rattle.std.proofs.Math.Seq.{take-append_seam, drop-append_seam}
 use Rattle.std.proofs.lemmas.List.{take-append-drop, length-take-le}
 use Rattle.std.specs.Int.{byte_at, bytes_high_first}
-use Rattle.keys.specs.Cells.{Codec, AreBytes, IsReadBack, ReadsSpellings, read_on, read_as, read_where, read_number, number, read_bytes, counted, pid_cell}
+use Rattle.keys.specs.Cells.{Codec, AreBytes, IsReadBack, ReadsEncodings, read_on, read_as, read_where, read_number, number, read_bytes, counted, pid_cell}
 
 -- ---- what was read, if the whole is known
 
@@ -50,19 +50,19 @@ bytes_after (u ∷ us) vs h = bytes_after us vs h.1
 pub record Went {X Y : Type 0} (c : Codec X) (bs : List ℕ) (next : X → List ℕ → Option (Y × List ℕ)) (y : Y) (rest : List ℕ) : Type 0 where
   pub first : X
   pub following : List ℕ
-  pub spelled : bs ≡ c.spell first ++ following
+  pub encoded : bs ≡ c.encode first ++ following
   pub bytes : AreBytes following
   pub went : next first following ≡ Some (y, rest)
 
-pub goes_on : {X Y : Type 0} (c : Codec X) → ReadsSpellings c → (bs : List ℕ) (next : X → List ℕ → Option (Y × List ℕ)) (y : Y) (rest : List ℕ) → AreBytes bs
+pub goes_on : {X Y : Type 0} (c : Codec X) → ReadsEncodings c → (bs : List ℕ) (next : X → List ℕ → Option (Y × List ℕ)) (y : Y) (rest : List ℕ) → AreBytes bs
     → read_on (c.read bs) next ≡ Some (y, rest) → Went c bs next y rest
 goes_on {X = X} {Y = Y} c exact bs next y rest bytes = of (c.read bs) refl
   where
     of : (o : Option (X × List ℕ)) → c.read bs ≡ o → read_on o next ≡ Some (y, rest) → Went c bs next y rest
     of None is h = absurd (nothing_read _ h)
     of (Some p) is h =
-        let spelled : bs ≡ c.spell p.0 ++ p.1 = exact bs p.0 p.1 bytes is in
-        record { first = p.0; following = p.1; spelled = spelled; bytes = bytes_after (c.spell p.0) p.1 (rw spelled at bytes); went = h }
+        let encoded : bs ≡ c.encode p.0 ++ p.1 = exact bs p.0 p.1 bytes is in
+        record { first = p.0; following = p.1; encoded = encoded; bytes = bytes_after (c.encode p.0) p.1 (rw encoded at bytes); went = h }
 
 -- ---- numbers
 
@@ -124,21 +124,21 @@ read_number-gave zero bs n rest bytes h =
 read_number-gave (suc w) [] n rest bytes h = absurd (nothing_read _ h)
 read_number-gave (suc w) (b ∷ bs) n rest bytes h =
     let (m, read, is) = read_as-gave (λ m. b * 256 ^ w + m) (read_number w bs) n rest h in
-    let (small, spelled) = read_number-gave w bs m rest bytes.1 read in
+    let (small, encoded) = read_number-gave w bs m rest bytes.1 read in
     let byte : b < 256 = bytes.0 in
     let top : (b + 1) * 256 ^ w ≤ 256 * 256 ^ w = mul-le-mul_right (256 ^ w) (omega arith) in
     let all : bytes_high_first (suc w) n ≡ b ∷ bytes_high_first w m =
     ap (bytes_high_first (suc w)) (sym is)
     ∙ ap (λ (a : ℕ). a ∷ bytes_high_first w (b * 256 ^ w + m)) (top_byte w b m byte small)
     ∙ ap (λ (cs : List ℕ). b ∷ cs) (same_low_bytes w b m) in
-    (rw (pow-succ' 256 w) (omega arith), ap (λ (cs : List ℕ). b ∷ cs) spelled ∙ ap (λ (cs : List ℕ). cs ++ rest) (sym all))
+    (rw (pow-succ' 256 w) (omega arith), ap (λ (cs : List ℕ). b ∷ cs) encoded ∙ ap (λ (cs : List ℕ). cs ++ rest) (sym all))
 
-pub number-spelled : (w : ℕ) → ReadsSpellings (number w)
-number-spelled w bs n rest bytes h = (read_number-gave w bs n rest bytes h).1
+pub number-encoded : (w : ℕ) → ReadsEncodings (number w)
+number-encoded w bs n rest bytes h = (read_number-gave w bs n rest bytes h).1
 
 -- ---- keys and cells
 
-pub length-counted : (bs : List ℕ) → length (counted.spell bs) ≡ 2 + length bs
+pub length-counted : (bs : List ℕ) → length (counted.encode bs) ≡ 2 + length bs
 length-counted bs = omega arith
 
 pub read_bytes-of : (bs rest : List ℕ) → read_bytes (length bs) (bs ++ rest) ≡ gave bs rest
@@ -149,7 +149,7 @@ read_bytes-of bs rest =
 
 pub counted-back : (bs : List ℕ) → length bs < 65536 → IsReadBack counted bs
 counted-back bs few rest =
-    ap counted.read (append_assoc ((number 2).spell (length bs)) bs rest)
+    ap counted.read (append_assoc ((number 2).encode (length bs)) bs rest)
     ∙ ap (λ o. read_on o read_bytes) (number-back 2 (length bs) few (bs ++ rest))
     ∙ read_bytes-of bs rest
 
@@ -163,22 +163,22 @@ read_bytes-gave n bs xs rest = of (nat_le n (length bs)) refl
         (ap (λ (ys : List ℕ). length ys) (sym e.0) ∙ length-take-le n bs few, sym (take-append-drop n bs) ∙ ap (λ (ys : List ℕ). ys ++ drop n bs) e.0 ∙ ap (λ (ys : List ℕ). xs ++ ys) e.1)
     of false fits h = absurd (nothing_read _ h)
 
-pub counted-spelled : ReadsSpellings counted
-counted-spelled bs xs rest bytes h =
-    let on = goes_on (number 2) (number-spelled 2) bs read_bytes xs rest bytes h in
+pub counted-encoded : ReadsEncodings counted
+counted-encoded bs xs rest bytes h =
+    let on = goes_on (number 2) (number-encoded 2) bs read_bytes xs rest bytes h in
     let (long, is) = read_bytes-gave on.first on.following xs rest on.went in
-    on.spelled
-    ∙ ap (λ (ys : List ℕ). (number 2).spell on.first ++ ys) is
-    ∙ ap (λ (n : ℕ). (number 2).spell n ++ (xs ++ rest)) (sym long)
-    ∙ sym (append_assoc ((number 2).spell (length xs)) xs rest)
+    on.encoded
+    ∙ ap (λ (ys : List ℕ). (number 2).encode on.first ++ ys) is
+    ∙ ap (λ (n : ℕ). (number 2).encode n ++ (xs ++ rest)) (sym long)
+    ∙ sym (append_assoc ((number 2).encode (length xs)) xs rest)
 
 pub pid-back : (p : ℕ) → p < 2 ^ 64 → IsReadBack pid_cell p
 pid-back p small rest = number-back 8 p small rest
 
-pub pid-spelled : ReadsSpellings pid_cell
-pid-spelled bs p rest bytes h = number-spelled 8 bs p rest bytes h
+pub pid-encoded : ReadsEncodings pid_cell
+pid-encoded bs p rest bytes h = number-encoded 8 bs p rest bytes h
 
 -- ---- no encoding is a prefix of another
 
-pub one_spelling : {X : Type 0} (c : Codec X) (x y : X) → IsReadBack c x → IsReadBack c y → (u v : List ℕ) → c.spell x ++ u ≡ c.spell y ++ v → (x ≡ y) × (u ≡ v)
-one_spelling c x y bx by u v e = same_reading x y u v (sym (bx u) ∙ ap c.read e ∙ by v)
+pub one_encoding : {X : Type 0} (c : Codec X) (x y : X) → IsReadBack c x → IsReadBack c y → (u v : List ℕ) → c.encode x ++ u ≡ c.encode y ++ v → (x ≡ y) × (u ≡ v)
+one_encoding c x y bx by u v e = same_reading x y u v (sym (bx u) ∙ ap c.read e ∙ by v)

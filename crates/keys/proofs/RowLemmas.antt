@@ -252,11 +252,11 @@ Fit-after bytes h =
     (Fit-drop (first_len bytes) (after_lens bytes) (Fit-drop 8 (drop 8 bytes) (Fit-drop 8 bytes h)))
 
 -- a row's bytes as they are appended, and the bytes after them
-abbrev spelled : Bytes → Bytes → Bytes → Bytes
-spelled key value x = parted (to_le_bytes w64 (length key)) (to_le_bytes w64 (length value)) key value x
+abbrev encoded : Bytes → Bytes → Bytes → Bytes
+encoded key value x = parted (to_le_bytes w64 (length key)) (to_le_bytes w64 (length value)) key value x
 
-first_spelled : (bytes : Bytes) → Fit bytes → IsWhole bytes → spelled (first_key bytes) (first_value bytes) (after_row bytes) ≡ bytes
-first_spelled bytes f h =
+first_encoded : (bytes : Bytes) → Fit bytes → IsWhole bytes → encoded (first_key bytes) (first_value bytes) (after_row bytes) ≡ bytes
+first_encoded bytes f h =
     let p = parts_of bytes h in
     let k : to_le_bytes w64 (length (first_key bytes)) ≡ take 8 bytes =
     le_bytes_8 (take 8 bytes) (length (first_key bytes)) p.key_len (Fit-take 8 bytes f) (sym p.of_key) in
@@ -279,10 +279,10 @@ same_bytes zero b c f g h k e = h ∙ sym k
 same_bytes (suc n) b c f g h k e =
     let first : (first_key b, first_value b) ≡ (first_key c, first_value c) = ap first_pair e in
     let later : after_row b ≡ after_row c = same_bytes n (after_row b) (after_row c) (Fit-after b f) (Fit-after c g) h.1 k.1 (ap later_pairs e) in
-    sym (first_spelled b f h.0)
-    ∙ ap (λ (p : Bytes × Bytes). spelled p.0 p.1 (after_row b)) first
-    ∙ ap (λ (x : Bytes). spelled (first_key c) (first_value c) x) later
-    ∙ first_spelled c g k.0
+    sym (first_encoded b f h.0)
+    ∙ ap (λ (p : Bytes × Bytes). encoded p.0 p.1 (after_row b)) first
+    ∙ ap (λ (x : Bytes). encoded (first_key c) (first_value c) x) later
+    ∙ first_encoded c g k.0
 
 order_decides : (j k : Bytes) → Decides (eq_by_cmp order j k) (j ≡ k)
 order_decides j k = subst (λ (t : Bool). Decides t (j ≡ k)) (texts_ties j k) (bytes_decides j k)

@@ -5,49 +5,49 @@ use Rattle.std.proofs.lemmas.List.{append_assoc, length-append, take-append-drop
 use Rattle.keys.specs.declared.command.Reply.{Reply}
 use Rattle.keys.specs.declared.command.Reply.TheVariants.{Rows}
 use Rattle.keys.specs.declared.piece.Piece.{Piece}
-use Rattle.keys.specs.declared.pieces.Rowless.{Rowless}
-use Rattle.keys.specs.Woven.{without_rows, woven, StandWithin}
+use Rattle.keys.specs.declared.pieces.EmptyScan.{EmptyScan}
+use Rattle.keys.specs.Woven.{piece_of_empty_scan, woven, StandWithin}
 
 module _ {A : Type 0} where
   -- the list with one piece more in it
-  abbrev pub put_in : List (Piece A) → Rowless → List (Piece A)
-  put_in ps r = take r.before ps ++ without_rows r ∷ drop r.before ps
+  abbrev pub put_in : List (Piece A) → EmptyScan → List (Piece A)
+  put_in ps r = take r.before ps ++ piece_of_empty_scan r ∷ drop r.before ps
 
-  length-put_in : (ps : List (Piece A)) (r : Rowless) → length (put_in ps r) ≡ suc (length ps)
+  length-put_in : (ps : List (Piece A)) (r : EmptyScan) → length (put_in ps r) ≡ suc (length ps)
   length-put_in ps r =
-      let both = length-append (take r.before ps) (without_rows {A = A} r ∷ drop r.before ps) in
+      let both = length-append (take r.before ps) (piece_of_empty_scan {A = A} r ∷ drop r.before ps) in
       let all = length-append (take r.before ps) (drop r.before ps) in
       let same = ap length (take-append-drop r.before ps) in
       omega (arith, both, all, same)
 
-  pub length-woven : (ps : List (Piece A)) (rs : List Rowless) → length (woven ps rs) ≡ length ps + length rs
+  pub length-woven : (ps : List (Piece A)) (rs : List EmptyScan) → length (woven ps rs) ≡ length ps + length rs
   length-woven ps [] = omega arith
   length-woven ps (r ∷ rs) = let more = length-woven (put_in ps r) rs in let one = length-put_in ps r in omega (arith, more, one)
 
   -- ---- one piece more at the end
 
-  put_in-push : (ps : List (Piece A)) (r : Rowless) (p : Piece A) → r.before ≤ length ps → put_in (ps ++ p ∷ []) r ≡ put_in ps r ++ p ∷ []
+  put_in-push : (ps : List (Piece A)) (r : EmptyScan) (p : Piece A) → r.before ≤ length ps → put_in (ps ++ p ∷ []) r ≡ put_in ps r ++ p ∷ []
   put_in-push ps r p h =
-      rw (take-append-le r.before ps (p ∷ []) h, drop-append-le r.before ps (p ∷ []) h, append_assoc (take r.before ps) (without_rows {A = A} r ∷ drop r.before ps) (p ∷ [])) refl
+      rw (take-append-le r.before ps (p ∷ []) h, drop-append-le r.before ps (p ∷ []) h, append_assoc (take r.before ps) (piece_of_empty_scan {A = A} r ∷ drop r.before ps) (p ∷ [])) refl
 
-  pub woven-push : (ps : List (Piece A)) (rs : List Rowless) (p : Piece A) → StandWithin (length ps) rs → woven (ps ++ p ∷ []) rs ≡ woven ps rs ++ p ∷ []
+  pub woven-push : (ps : List (Piece A)) (rs : List EmptyScan) (p : Piece A) → StandWithin (length ps) rs → woven (ps ++ p ∷ []) rs ≡ woven ps rs ++ p ∷ []
   woven-push ps [] p h = refl
   woven-push ps (r ∷ rs) p h =
       ap (λ (qs : List (Piece A)). woven qs rs) (put_in-push ps r p h.0)
       ∙ woven-push (put_in ps r) rs p (rw (length-put_in ps r) h.1)
 
-  pub woven-rowless : (ps : List (Piece A)) (rs : List Rowless) (r : Rowless) → r.before ≡ length (woven ps rs) → woven ps (rs ++ r ∷ []) ≡ woven ps rs ++ without_rows r ∷ []
-  woven-rowless ps [] r h =
+  pub woven-empty_scans : (ps : List (Piece A)) (rs : List EmptyScan) (r : EmptyScan) → r.before ≡ length (woven ps rs) → woven ps (rs ++ r ∷ []) ≡ woven ps rs ++ piece_of_empty_scan r ∷ []
+  woven-empty_scans ps [] r h =
       rw (take_all r.before ps (omega (arith, h)), drop_all r.before ps (omega (arith, h))) refl
-  woven-rowless ps (q ∷ rs) r h = woven-rowless (put_in ps q) rs r h
+  woven-empty_scans ps (q ∷ rs) r h = woven-empty_scans (put_in ps q) rs r h
 
 -- ---- positions
 
-pub StandWithin-more : (n m : ℕ) (rs : List Rowless) → n ≤ m → StandWithin n rs → StandWithin m rs
+pub StandWithin-more : (n m : ℕ) (rs : List EmptyScan) → n ≤ m → StandWithin n rs → StandWithin m rs
 StandWithin-more n m [] l h = tt
 StandWithin-more n m (r ∷ rs) l h = let first = h.0 in (omega (arith, first, l), StandWithin-more (suc n) (suc m) rs (omega (arith, l)) h.1)
 
-pub StandWithin-push : (n : ℕ) (rs : List Rowless) (r : Rowless) → StandWithin n rs → r.before ≤ n + length rs → StandWithin n (rs ++ r ∷ [])
+pub StandWithin-push : (n : ℕ) (rs : List EmptyScan) (r : EmptyScan) → StandWithin n rs → r.before ≤ n + length rs → StandWithin n (rs ++ r ∷ [])
 StandWithin-push n [] r h l = (omega (arith, l), tt)
 StandWithin-push n (q ∷ rs) r h l = (h.0, StandWithin-push (suc n) rs r h.1 (omega (arith, l)))
 
@@ -58,7 +58,7 @@ is_none_by None h = refl
 is_none_by (Some x) h = absurd (cc)
 
 module _ {A : Type 0} where
-  module _ (first : Option (Piece A)) (rest now : List (Piece A)) (rs : List Rowless) (p : Piece A) (h : StandWithin (length (option_to_list first ++ rest)) rs) where
+  module _ (first : Option (Piece A)) (rest now : List (Piece A)) (rs : List EmptyScan) (p : Piece A) (h : StandWithin (length (option_to_list first ++ rest)) rs) where
     abbrev held : List (Piece A)
     held = option_to_list first ++ rest
 
@@ -82,14 +82,14 @@ module _ {A : Type 0} where
       pub rest_within : StandWithin (length (option_to_list first ++ now)) rs
       rest_within = StandWithin-more (length held) (length (option_to_list first ++ now)) rs (let one = ap length following in let both = length-append held (p ∷ []) in omega (arith, one, both)) h
 
-  module _ (ps : List (Piece A)) (rs now : List Rowless) (r : Rowless) (p : Piece A) (more : now ≡ rs ++ r ∷ []) (count : r.before ≡ length (woven ps rs)) where
+  module _ (ps : List (Piece A)) (rs now : List EmptyScan) (r : EmptyScan) (p : Piece A) (more : now ≡ rs ++ r ∷ []) (count : r.before ≡ length (woven ps rs)) where
     pub rowless_pushed : r.place ≡ p.place → p.reply ≡ Rows [] → woven ps now ≡ woven ps rs ++ p ∷ []
     rowless_pushed here empty =
-        let same : without_rows {A = A} r ≡ p = rw here (ap (λ (x : Reply A). record { place = p.place; reply = x }) (sym empty)) in
-        ap (λ (qs : List Rowless). woven ps qs) more ∙ woven-rowless ps rs r count ∙ ap (λ (q : Piece A). woven ps rs ++ q ∷ []) same
+        let same : piece_of_empty_scan {A = A} r ≡ p = rw here (ap (λ (x : Reply A). record { place = p.place; reply = x }) (sym empty)) in
+        ap (λ (qs : List EmptyScan). woven ps qs) more ∙ woven-empty_scans ps rs r count ∙ ap (λ (q : Piece A). woven ps rs ++ q ∷ []) same
 
     pub rowless_within : StandWithin (length ps) rs → StandWithin (length ps) now
     rowless_within h = rw more (StandWithin-push (length ps) rs r h (let all = length-woven ps rs in omega (arith, all, count)))
 
-  pub counted : (first : Option (Piece A)) (rest : List (Piece A)) (rs : List Rowless) (all : List (Piece A)) (n : ℕ) → woven (option_to_list first ++ rest) rs ≡ all → n ≡ length all → n ≡ length (woven (option_to_list first ++ rest) rs)
+  pub counted : (first : Option (Piece A)) (rest : List (Piece A)) (rs : List EmptyScan) (all : List (Piece A)) (n : ℕ) → woven (option_to_list first ++ rest) rs ≡ all → n ≡ length all → n ≡ length (woven (option_to_list first ++ rest) rs)
   counted first rest rs all n e h = h ∙ sym (ap length e)

@@ -14,5 +14,5 @@ abbrev pub Changes : Type 0 → Type 0
 Changes V = List (Bytes × Option V)
 
 -- low keys with the ids of their pages: the entries of an index page, and the level below as the level above describes it
-abbrev pub Names : Type 0
-Names = Pairs ℕ
+abbrev pub Separators : Type 0
+Separators = Pairs ℕ

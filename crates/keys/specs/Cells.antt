@@ -6,7 +6,7 @@ use Rattle.keys.specs.Bytes.{Bytes}
 
 -- an encoding, and its decoder: the decoded value and the bytes after it, or None if the bytes do not begin with an encoded value
 pub record Codec (X : Type 0) : Type 0 where
-  pub spell : X → Bytes
+  pub encode : X → Bytes
   pub read : Bytes → Option (X × Bytes)
 
 -- each element is a byte
@@ -17,11 +17,11 @@ AreBytes bs = AllByRecursion (λ b. b < 256) bs
 
 -- x is decoded from its encoding, whatever follows it
 abbrev pub IsReadBack : {X : Type 0} → Codec X → X → Type 0
-IsReadBack c x = (rest : Bytes) → c.read (c.spell x ++ rest) ≡ Some (x, rest)
+IsReadBack c x = (rest : Bytes) → c.read (c.encode x ++ rest) ≡ Some (x, rest)
 
 -- if a value is decoded from bytes, the bytes begin with that value's encoding
-abbrev pub ReadsSpellings : {X : Type 0} → Codec X → Type 0
-ReadsSpellings {X = X} c = (bs : Bytes) (x : X) (rest : Bytes) → AreBytes bs → c.read bs ≡ Some (x, rest) → bs ≡ c.spell x ++ rest
+abbrev pub ReadsEncodings : {X : Type 0} → Codec X → Type 0
+ReadsEncodings {X = X} c = (bs : Bytes) (x : X) (rest : Bytes) → AreBytes bs → c.read bs ≡ Some (x, rest) → bs ≡ c.encode x ++ rest
 
 -- ---- combinators for decoders
 
@@ -48,7 +48,7 @@ read_number (suc w) (b ∷ bs) = read_as (λ n. b * 256 ^ w + n) (read_number w 
 
 -- the codec of big-endian numbers of w bytes
 abbrev pub number : ℕ → Codec ℕ
-number w = record { spell = bytes_high_first w; read = read_number w }
+number w = record { encode = bytes_high_first w; read = read_number w }
 
 -- ---- keys and cells
 
@@ -58,7 +58,7 @@ read_bytes n bs = if nat_le n (length bs) then Some (take n bs, drop n bs) else 
 
 -- byte strings with their length in two bytes before them; keys are encoded in this way
 abbrev pub counted : Codec Bytes
-counted = record { spell = λ bs. (number 2).spell (length bs) ++ bs; read = λ bs. read_on ((number 2).read bs) read_bytes }
+counted = record { encode = λ bs. (number 2).encode (length bs) ++ bs; read = λ bs. read_on ((number 2).read bs) read_bytes }
 
 -- a value
 abbrev pub value_cell : Codec Bytes

@@ -22,18 +22,18 @@ span_of (Scan lo hi limit) = Range lo hi
 span_of (Wipe lo hi) = Range lo hi
 
 -- what a command may do to its keys: read them, set their value, or delete them
-pub data Deed : Type 0 where
-  Looks : Deed
-  Gives : Bytes → Deed
-  Takes : Deed
+pub data Access : Type 0 where
+  Looks : Access
+  Gives : Bytes → Access
+  Takes : Access
 
-abbrev pub deed_of : {A : Type 0} → Command A → Deed
-deed_of (Get k) = Looks
-deed_of (Put k v) = Gives v
-deed_of (Add k v) = Gives v
-deed_of (Del k) = Takes
-deed_of (Scan lo hi limit) = Looks
-deed_of (Wipe lo hi) = Takes
+abbrev pub access_of : {A : Type 0} → Command A → Access
+access_of (Get k) = Looks
+access_of (Put k v) = Gives v
+access_of (Add k v) = Gives v
+access_of (Del k) = Takes
+access_of (Scan lo hi limit) = Looks
+access_of (Wipe lo hi) = Takes
 
 -- how the reply is made of the pages' answers: the answer of a single page, all their rows up to a limit, or the sum of their counts
 pub data Joining : Type 0 where
@@ -65,10 +65,10 @@ is_in_span (One k) q = is_eq (order q k)
 is_in_span (Range lo hi) q = is_within lo hi q
 
 -- whether a command of this kind leaves every map unchanged
-abbrev pub is_looking : Deed → Bool
-is_looking Looks = true
-is_looking (Gives v) = false
-is_looking Takes = false
+abbrev pub is_reading : Access → Bool
+is_reading Looks = true
+is_reading (Gives v) = false
+is_reading Takes = false
 
 -- whether a reply is joined from rows; whether it is a sum of counts
 abbrev pub is_of_rows : Joining → Bool

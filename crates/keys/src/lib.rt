@@ -33,7 +33,7 @@ pub use crate::key_ref::{KeyRef, KeyWithWord};
 pub use crate::order::{compare, is_before};
 pub use crate::pid::Pid;
 pub use crate::piece::Piece;
-pub use crate::pieces::{Pieces, Rowless};
+pub use crate::pieces::{EmptyScan, Pieces};
 pub use crate::row_list::{RowIter, RowList};
 pub use crate::settings::{Field, Settings};
 pub use crate::value::Value;

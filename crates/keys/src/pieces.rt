@@ -10,13 +10,13 @@ use std::alloc::{AllocError, Allocator};
 use std::marker::Model;
 use std::mem;
 
-// The greatest place, and the greatest number of preceding pieces, that a `Rowless` can hold.
+// The greatest place, and the greatest number of preceding pieces, that a `EmptyScan` can hold.
 const MOST: usize = u32::MAX as usize;
 
 /// The answer of a page on which a scan found no rows. Such pieces are stored in eight bytes, because a batch of scans
 /// over emptied pages can have millions of them.
 #[derive(Drop)]
-pub struct Rowless {
+pub struct EmptyScan {
     /// The scan's place in the batch, counted from 0.
     pub place: u32,
     /// The number of pieces before this one.
@@ -30,7 +30,7 @@ pub struct Rowless {
 pub struct Pieces<A: Allocator> {
     first: Option<Piece<A>>,
     rest: Vec<Piece<A>, A>,
-    rowless: Vec<Rowless, A>,
+    empty_scans: Vec<EmptyScan, A>,
 }
 
 impl<A: Allocator> Model for Pieces<A> {
@@ -41,10 +41,10 @@ impl<A: Allocator> Model for Pieces<A> {
 
     ghost Value = { List (Piece A) };
 
-    ghost view = { λ p. woven (option_to_list p.first ++ p.rest.items) p.rowless.items };
+    ghost view = { λ p. woven (option_to_list p.first ++ p.rest.items) p.empty_scans.items };
 
     ghost invariant = { λ p. StandWithin
-        (length (option_to_list p.first ++ p.rest.items)) p.rowless.items };
+        (length (option_to_list p.first ++ p.rest.items)) p.empty_scans.items };
 }
 
 impl<A: Allocator + Copy> Pieces<A> {
@@ -55,7 +55,7 @@ impl<A: Allocator + Copy> Pieces<A> {
         Pieces {
             first: None,
             rest: Vec::new(alloc),
-            rowless: Vec::new(alloc),
+            empty_scans: Vec::new(alloc),
         }
     }
 
@@ -65,11 +65,11 @@ impl<A: Allocator + Copy> Pieces<A> {
         ensures { IfOk result (λ pieces. pieces ≡ []) }
     {
         let rest = Vec::with_capacity(alloc, count.saturating_sub(1))?;
-        let rowless = Vec::new(alloc);
+        let empty_scans = Vec::new(alloc);
         Ok(Pieces {
             first: None,
             rest,
-            rowless,
+            empty_scans,
         })
     }
 
@@ -81,7 +81,7 @@ impl<A: Allocator + Copy> Pieces<A> {
         if is_without_rows(&piece.reply) {
             let before = self.count();
             if piece.place <= MOST && before <= MOST {
-                self.rowless.push(Rowless {
+                self.empty_scans.push(EmptyScan {
                     place: piece.place as u32,
                     before: before as u32,
                 })?;
@@ -94,7 +94,7 @@ impl<A: Allocator + Copy> Pieces<A> {
     fn count(&self) -> usize
         ensures { result ≡ min (length self.now) usize.MAX }
     {
-        let others = self.rest.len().saturating_add(self.rowless.len());
+        let others = self.rest.len().saturating_add(self.empty_scans.len());
         count_of(&self.first).saturating_add(others)
     }
 
@@ -121,15 +121,15 @@ impl<A: Allocator + Copy> Pieces<A> {
 
     /// Splits into the first piece that is not a scan without rows (if there is one), the other such pieces, and the
     /// scans without rows.
-    pub fn into_parts(self) -> (Option<Piece<A>>, Vec<Piece<A>, A>, Vec<Rowless, A>)
+    pub fn into_parts(self) -> (Option<Piece<A>>, Vec<Piece<A>, A>, Vec<EmptyScan, A>)
         ensures { self ≡ woven (option_to_list result.0 ++ result.1.items) result.2.items }
     {
         let Pieces {
             first,
             rest,
-            rowless,
+            empty_scans,
         } = self;
-        (first, rest, rowless)
+        (first, rest, empty_scans)
     }
 }
 

@@ -16,7 +16,7 @@ use Rattle.mapping.specs.Finding.{Finding, common_rules, child_rule, pid_rule, f
 use Rattle.mapping.specs.Proper.{next_low, Tiled, Distinct}
 use Rattle.mapping.proofs.MetPids.{not_among, distinct_ahead}
 use Rattle.index_page.proofs.ListLemmas.{all_apart}
-use Rattle.mapping.proofs.TileLemmas.{Names, next_names}
+use Rattle.mapping.proofs.TileLemmas.{Separators, next_names}
 use Rattle.index_page.proofs.ChildLemmas.{next_key, place_of, children-cons}
 use Rattle.mapping.proofs.Joined.{AreSpaced}
 
@@ -113,7 +113,7 @@ IsTestOf Has Good look broken =
 
 module _ {V : Type 0} (Has : Placed V → Type 0) (Good : Page V → Type 0) (look : ℕ → Page V) (broken : List ℕ → Place → Option ℕ) (each : IsTestOf Has Good look broken) where
   -- if there is no finding on a level, its pages are those of the entries above, and in order
-  pub level_of_none : (ns : Names) (end : Option (List ℕ)) (met : List ℕ) → AreSpaced ns end → Distinct met → on_level broken met (children ns end) ≡ None
+  pub level_of_none : (ns : Separators) (end : Option (List ℕ)) (met : List ℕ) → AreSpaced ns end → Distinct met → on_level broken met (children ns end) ≡ None
       → (let here : List (Placed V) = map (placed look) (values_of ns) in (names here ≡ ns) × IsLevel Has Good end met here)
   level_of_none [] end met r d h = (refl, record { has = tt; tiled = tt; good = tt; distinct = d })
   level_of_none (e ∷ es) end met r d h =
@@ -123,13 +123,13 @@ module _ {V : Type 0} (Has : Placed V → Type 0) (Good : Page V → Type 0) (lo
       let own = (each met at).0 both.0 in
       let rest = level_of_none es end (e.1 ∷ met) r.1 ((not_among e.1 met).0 own.1.new, d) both.1 in
       let pair : List ℕ → List ℕ × ℕ = λ k. (k, e.1) in
-      let end_is : next_key es end ≡ next_low here end = ap (λ (x : Names). next_key x end) (sym rest.0) ∙ next_names here end in
+      let end_is : next_key es end ≡ next_low here end = ap (λ (x : Separators). next_key x end) (sym rest.0) ∙ next_names here end in
       let low : List ℕ = (look e.1).low in
       let keys : KeepsRange low (next_low here end) (look e.1) =
       subst (λ (x : Option (List ℕ)). KeepsRange low x (look e.1)) end_is (subst (λ (k : List ℕ). KeepsRange k (next_key es end) (look e.1)) (sym own.1.low) own.1.keys) in
       let below : IsBefore (next_low here end) low =
       subst (λ (x : Option (List ℕ)). IsBefore x low) end_is (subst (λ (k : List ℕ). IsBefore (next_key es end) k) (sym own.1.low) r.0) in (
-        ap (λ (k : List ℕ). pair k ∷ names here) own.1.low ∙ ap (λ (x : Names). e ∷ x) rest.0,
+        ap (λ (k : List ℕ). pair k ∷ names here) own.1.low ∙ ap (λ (x : Separators). e ∷ x) rest.0,
         record {
           has = (own.0, rest.1.has);
           tiled = (record { keys = keys; low = below }, rest.1.tiled);
@@ -139,7 +139,7 @@ module _ {V : Type 0} (Has : Placed V → Type 0) (Good : Page V → Type 0) (lo
       )
 
   -- if the pages are those of the entries above, and in order, there is no finding
-  pub none_of_level : (ns : Names) (end : Option (List ℕ)) (met : List ℕ)
+  pub none_of_level : (ns : Separators) (end : Option (List ℕ)) (met : List ℕ)
       → (let here : List (Placed V) = map (placed look) (values_of ns) in names here ≡ ns → IsLevel Has Good end met here → on_level broken met (children ns end) ≡ None)
   none_of_level [] end met n l = refl
   none_of_level (e ∷ es) end met n l =
@@ -149,7 +149,7 @@ module _ {V : Type 0} (Has : Placed V → Type 0) (Good : Page V → Type 0) (lo
       let names_rest : names here ≡ es = cc in
       let first : (low, e.1) ≡ e = cc in
       let low_is : low ≡ e.0 = ap (λ (x : List ℕ × ℕ). x.0) first in
-      let end_is : next_low here end ≡ next_key es end = sym (next_names here end) ∙ ap (λ (x : Names). next_key x end) names_rest in
+      let end_is : next_low here end ≡ next_key es end = sym (next_names here end) ∙ ap (λ (x : Separators). next_key x end) names_rest in
       let keys : KeepsRange e.0 (next_key es end) (look e.1) =
       subst (λ (x : Option (List ℕ)). KeepsRange e.0 x (look e.1)) end_is (subst (λ (k : List ℕ). KeepsRange k (next_low here end) (look e.1)) low_is (l.tiled.0).keys) in
       let new : is_among e.1 met ≡ false = (not_among e.1 met).1 (all_apart (λ m. m ≢ e.1) (pids here) met l.distinct.0).1 in

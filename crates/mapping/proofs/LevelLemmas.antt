@@ -8,7 +8,7 @@ use Rattle.index_page.specs.Page.{Page, PageOfKind}
 use Rattle.mapping.specs.Tree.{Tree, page_at}
 use Rattle.mapping.specs.Levels.{Placed, Levels, joined, names, pids, as_leaf, as_index, leaf_at, index_at, levels_below, levels_of, first_pid, top_pid}
 use Rattle.mapping.specs.Proper.{Stacked, HasLeaves, HasIndexPages, HoldsLevels}
-use Rattle.mapping.proofs.TileLemmas.{Names}
+use Rattle.mapping.proofs.TileLemmas.{Separators}
 
 module _ {V : Type 0} where
   pub values_of-names : (ps : List (Placed V)) → values_of (names ps) ≡ pids ps
@@ -19,7 +19,7 @@ module _ {V : Type 0} where
   pids-append xs ys = map-append (λ p. p.pid) xs ys
 
   pub same_pids : {W : Type 0} (ps : List (Placed V)) (qs : List (Placed W)) → names ps ≡ names qs → pids ps ≡ pids qs
-  same_pids ps qs e = sym (values_of-names ps) ∙ ap (λ (ns : Names). values_of ns) e ∙ (let r : values_of (names qs) ≡ pids qs = values qs in r)
+  same_pids ps qs e = sym (values_of-names ps) ∙ ap (λ (ns : Separators). values_of ns) e ∙ (let r : values_of (names qs) ≡ pids qs = values qs in r)
     where
       values : {W : Type 0} (qs : List (Placed W)) → values_of (names qs) ≡ pids qs
       values [] = refl
@@ -52,7 +52,7 @@ index_pages_found t (p ∷ ps) h =
 step_down : {V : Type 0} (t : List (ℕ × PageOfKind)) (more : ℕ) (level : List (Placed V)) (up : List (Placed ℕ)) (ups : List (List (Placed ℕ))) → HasIndexPages t up → joined up ≡ names level → levels_below t (suc more) (pids up) ups ≡ levels_below t more (pids level) (up ∷ ups)
 step_down t more level up ups h l =
     ap (λ (here : List (Placed ℕ)). levels_below t more (values_of (joined here)) (here ∷ ups)) (index_pages_found t up h)
-    ∙ ap (λ (ns : Names). levels_below t more (values_of ns) (up ∷ ups)) l
+    ∙ ap (λ (ns : Separators). levels_below t more (values_of ns) (up ∷ ups)) l
     ∙ ap (λ (ns : List ℕ). levels_below t more ns (up ∷ ups)) (values_of-names level)
 
 -- the walk comes to each level of a table that has the levels above it

@@ -14,13 +14,13 @@ use Rattle.mapping.specs.Levels.{Placed, Levels, joined, name, names, pids, all_
 use Rattle.mapping.specs.FreshPids.{is_among}
 use Rattle.mapping.specs.Proper.{next_low, IsParentOf, Stacked, IsBranchedTop, Distinct, HasIndexPages, IsTree, IsProper}
 use Rattle.mapping.proofs.MetPids.{distinct_last}
-use Rattle.mapping.proofs.TileLemmas.{Names, next_names}
+use Rattle.mapping.proofs.TileLemmas.{Separators, next_names}
 use Rattle.index_page.proofs.ChildLemmas.{next_key}
 use Rattle.mapping.proofs.Joined.{AreHeaded, next_joined}
 use Rattle.mapping.proofs.Level.{IsLevel, IsGoodLeaf, IsGoodIndex}
 
 -- the entries are those of the level above, and one where there is no level above
-abbrev pub AreNamed : Names → List (List (Placed ℕ)) → Type 0
+abbrev pub AreNamed : Separators → List (List (Placed ℕ)) → Type 0
 AreNamed ns [] = length ns ≡ 1
 AreNamed ns (up ∷ ups) = joined up ≡ ns
 
@@ -79,7 +79,7 @@ named_by_stack here (up ∷ ups) k = (k.0).linked
 -- the first page above a level whose first low key is the empty key has that low key
 first_above : {V : Type 0} → (here : List (Placed V)) (up : List (Placed ℕ)) → IsParentOf here up → next_low here None ≡ Some [] → next_low up None ≡ Some []
 first_above here up k f =
-    sym (next_joined up None k.headed) ∙ ap (λ (x : Names). next_key x None) k.linked ∙ next_names here None ∙ f
+    sym (next_joined up None k.headed) ∙ ap (λ (x : Separators). next_key x None) k.linked ∙ next_names here None ∙ f
 
 -- the levels of a proper tree above one of its levels
 above_parts : {V : Type 0} → (s : Settings) (ps : List (ℕ × PageOfKind)) (here : List (Placed V)) (above : List (List (Placed ℕ)))

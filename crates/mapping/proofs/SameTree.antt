@@ -14,7 +14,7 @@ use Rattle.mapping.specs.Tree.{Tree, page_at}
 use Rattle.mapping.specs.Levels.{Placed, Levels, entries, joined, pids, all_pids, as_leaf, as_index, index_at, levels_below, levels_of, top_pid}
 use Rattle.mapping.specs.FreshPids.{is_among}
 use Rattle.mapping.specs.Proper.{next_low, Distinct, Stacked, HasLeaves, HasIndexPages, HoldsLevels, IsProper}
-use Rattle.mapping.proofs.TileLemmas.{Names}
+use Rattle.mapping.proofs.TileLemmas.{Separators}
 use Rattle.mapping.proofs.PidLemmas.{among_either_by, among_either, among_left, among_right}
 use Rattle.mapping.proofs.MetPids.{distinct_last}
 use Rattle.mapping.proofs.LevelLemmas.{values_of-names}
@@ -97,7 +97,7 @@ module _ (ps : List (ℕ × PageOfKind)) where
   named_or_top level (up ∷ ups) n st h m =
       elim (among_either n (pids level) (all_pids up ups) m) [
         | inl here ↦ (
-            let named : values_of (joined up) ≡ pids level = ap (λ (ns : Names). values_of ns) (st.0).linked ∙ values_of-names level in
+            let named : values_of (joined up) ≡ pids level = ap (λ (ns : Separators). values_of ns) (st.0).linked ∙ values_of-names level in
             inr (named_by_level n up h.0 (rw named here))
             )
         | inr later ↦ named_or_top up ups n st.1 h.1 later
@@ -115,7 +115,7 @@ module _ (ps : List (ℕ × PageOfKind)) where
   top_unnamed level (here ∷ ups) pid up st h d g m c =
       elim (among_either pid (pids here) (flat_map pids ups) m) [
         | inl first ↦ (
-            let named : values_of (joined here) ≡ pids level = ap (λ (ns : Names). values_of ns) (st.0).linked ∙ values_of-names level in
+            let named : values_of (joined here) ≡ pids level = ap (λ (ns : Separators). values_of ns) (st.0).linked ∙ values_of-names level in
             let below : is_among (top_pid here ups) (pids level) ≡ true = rw (sym named) (named_in_level (top_pid here ups) pid up here h.0 g first c) in
             twice (top_pid here ups) (pids level) (all_pids here ups) d below (top_among here ups st.1)
             )

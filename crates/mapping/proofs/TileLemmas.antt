@@ -21,8 +21,8 @@ use Rattle.index_page.proofs.PageLemmas.{all_keys_entries}
 use Rattle.mapping.specs.Levels.{Placed, entries, joined, name, names}
 use Rattle.mapping.specs.Proper.{next_low, IsTile, Tiled}
 
-abbrev pub Names : Type 0
-Names = List (List ℕ × ℕ)
+abbrev pub Separators : Type 0
+Separators = List (List ℕ × ℕ)
 
 module _ {V : Type 0} where
   -- ---- joined lists of pages
@@ -114,7 +114,7 @@ module _ {V : Type 0} where
   -- ---- where names begin
 
   -- pages begin where their names do
-  pub next_low-named : (ps : List (Placed V)) (n : List ℕ × ℕ) (ns : Names) (end : Option (List ℕ)) → names ps ≡ n ∷ ns → next_low ps end ≡ Some n.0
+  pub next_low-named : (ps : List (Placed V)) (n : List ℕ × ℕ) (ns : Separators) (end : Option (List ℕ)) → names ps ≡ n ∷ ns → next_low ps end ≡ Some n.0
   next_low-named [] n ns end e = absurd (cc)
   next_low-named (p ∷ ps) n ns end e = let f : name p ≡ n = cc in ap (λ (m : List ℕ × ℕ). Some m.0) f
 
@@ -124,7 +124,7 @@ module _ {V : Type 0} where
   next_low-same (p ∷ ps) [] end e = absurd (cc)
   next_low-same (p ∷ ps) (q ∷ qs) end e = let f : name p ≡ name q = cc in ap (λ (m : List ℕ × ℕ). Some m.0) f
 
-  pub next_low-entries : (ps : List (Placed V)) (es : Names) (low : List ℕ) (end : Option (List ℕ)) → es ≡ names ps → 0 < length es → first_key es ≡ low → next_low ps end ≡ Some low
+  pub next_low-entries : (ps : List (Placed V)) (es : Separators) (low : List ℕ) (end : Option (List ℕ)) → es ≡ names ps → 0 < length es → first_key es ≡ low → next_low ps end ≡ Some low
   next_low-entries ps [] low end e h f = absurd (omega arith)
   next_low-entries [] (n ∷ es) low end e h f = absurd (cc)
   next_low-entries (p ∷ ps) (n ∷ es) low end e h f =
@@ -178,7 +178,7 @@ module _ {V : Type 0} where
   pub range-names : (xs ys : List (Placed V)) (p : Placed V) (end : Option (List ℕ))
       → children (names (xs ++ p ∷ ys)) end ≡ children (names xs) (Some p.page.low) ++ place_of (name p) (next_low ys end) ∷ children (names ys) end
   range-names xs ys p end =
-      ap (λ (ns : Names). children ns end) (names-append xs (p ∷ ys))
+      ap (λ (ns : Separators). children ns end) (names-append xs (p ∷ ys))
       ∙ children-append (names xs) (names (p ∷ ys)) end
       ∙ ap (λ (x : List Place). children (names xs) (Some p.page.low) ++ x) (children-cons (name p) (names ys) end ∙ ap (λ (x : Option (List ℕ)). place_of (name p) x ∷ children (names ys) end) (next_names ys end))
 

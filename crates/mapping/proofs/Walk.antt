@@ -12,7 +12,7 @@ use Rattle.mapping.specs.FreshPids.{is_among}
 use Rattle.index_page.specs.Children.{Place, children}
 use Rattle.mapping.specs.Finding.{Finding, broken_leaf, broken_index, or_else, on_level, unmet, children_at, all_met, finding_below, finding}
 use Rattle.mapping.specs.Proper.{next_low, Distinct, IsTree, IsProper}
-use Rattle.mapping.proofs.TileLemmas.{Names, next_names}
+use Rattle.mapping.proofs.TileLemmas.{Separators, next_names}
 use Rattle.index_page.proofs.ChildLemmas.{next_key, pids-children}
 use Rattle.mapping.proofs.Joined.{AreSpaced, AreHeaded, next_joined, spaced_joined, places_below}
 use Rattle.mapping.proofs.Level.{IsTestOf, IsGoodLeaf, IsGoodIndex, leaf_at_place, index_at_place, level_of_none, none_of_level, placed}
@@ -42,11 +42,11 @@ module _ {V : Type 0} (look : ℕ → Page V) where
   pids_at (n ∷ ns) = ap (λ (x : List ℕ). n ∷ x) (pids_at ns)
 
   -- after a level, its pages' pids have been visited, and those visited before
-  met_after : (ns : Names) (met : List ℕ) → all_met met (children ns None) ≡ pids (map (placed look) (values_of ns)) ++ met
+  met_after : (ns : Separators) (met : List ℕ) → all_met met (children ns None) ≡ pids (map (placed look) (values_of ns)) ++ met
   met_after ns met = ap (λ (x : List ℕ). x ++ met) (pids-children ns None ∙ sym (pids_at (values_of ns)))
 
   -- the root's name, by its low key
-  one_name : (ns : Names) → length ns ≡ 1 → next_key ns None ≡ Some [] → next_low (map (placed look) (values_of ns)) None ≡ Some [] → names (map (placed look) (values_of ns)) ≡ ns
+  one_name : (ns : Separators) → length ns ≡ 1 → next_key ns None ≡ Some [] → next_low (map (placed look) (values_of ns)) None ≡ Some [] → names (map (placed look) (values_of ns)) ≡ ns
   one_name [] l f g = refl
   one_name (e ∷ []) l f g =
       let low : (look e.1).low ≡ e.0 = cc in
@@ -55,14 +55,14 @@ module _ {V : Type 0} (look : ℕ → Page V) where
   one_name (e ∷ d ∷ ns) l f g = absurd (omega arith)
 
   -- a level's pages have the entries of the level above, by the facts about the level
-  same_names : (ns : Names) (above : List (List (Placed ℕ))) → AreNamed ns above → next_key ns None ≡ Some []
+  same_names : (ns : Separators) (above : List (List (Placed ℕ))) → AreNamed ns above → next_key ns None ≡ Some []
       → (let here : List (Placed V) = map (placed look) (values_of ns) in AreNamed (names here) above → next_low here None ≡ Some [] → names here ≡ ns)
   same_names ns [] m f n g = one_name ns m f g
   same_names ns (up ∷ ups) m f n g = sym n ∙ m
 
 -- if a level's pages are named by entries that begin at the empty key, so do they
-first_of_named : {V : Type 0} → (here : List (Placed V)) (ns : Names) → names here ≡ ns → next_key ns None ≡ Some [] → next_low here None ≡ Some []
-first_of_named here ns e f = sym (next_names here None) ∙ ap (λ (x : Names). next_key x None) e ∙ f
+first_of_named : {V : Type 0} → (here : List (Placed V)) (ns : Separators) → names here ≡ ns → next_key ns None ≡ Some [] → next_low here None ≡ Some []
+first_of_named here ns e f = sym (next_names here None) ∙ ap (λ (x : Separators). next_key x None) e ∙ f
 
 module _ (s : Settings) (ps : List (ℕ × PageOfKind)) where
   -- ---- a level that is named by entries
@@ -73,10 +73,10 @@ module _ (s : Settings) (ps : List (ℕ × PageOfKind)) where
   abbrev index_under : ℕ → Page ℕ
   index_under pid = as_index (page_at ps pid)
 
-  abbrev leaves_at : Names → List (Placed (List ℕ))
+  abbrev leaves_at : Separators → List (Placed (List ℕ))
   leaves_at ns = map (leaf_at ps) (values_of ns)
 
-  abbrev indexes_at : Names → List (Placed ℕ)
+  abbrev indexes_at : Separators → List (Placed ℕ)
   indexes_at ns = map (index_at ps) (values_of ns)
 
   abbrev test_leaf : List ℕ → Place → Option ℕ
@@ -92,22 +92,22 @@ module _ (s : Settings) (ps : List (ℕ × PageOfKind)) where
   index_tests least met at = index_at_place s least met at (page_at ps at.pid)
 
   -- what a walk finds below a level of index pages, said of that level's pages
-  abbrev later : ℕ → Names → List ℕ → Option Finding
+  abbrev later : ℕ → Separators → List ℕ → Option Finding
   later n ns met = finding_below s ps n 1 (all_met met (children ns None)) (flat_map (children_at ps) (children ns None))
 
-  found_later : (n : ℕ) (ns : Names) (met : List ℕ) → names (indexes_at ns) ≡ ns → AllByRecursion (HasIndex ps) (indexes_at ns) → AreHeaded 1 (indexes_at ns)
+  found_later : (n : ℕ) (ns : Separators) (met : List ℕ) → names (indexes_at ns) ≡ ns → AllByRecursion (HasIndex ps) (indexes_at ns) → AreHeaded 1 (indexes_at ns)
       → later n ns met ≡ finding_below s ps n 1 (pids (indexes_at ns) ++ met) (children (joined (indexes_at ns)) None)
   found_later n ns met e h d =
       let here : List (Placed ℕ) = indexes_at ns in
       let places : flat_map (children_at ps) (children ns None) ≡ children (joined here) None =
-      ap (λ (x : Names). flat_map (children_at ps) (children x None)) (sym e) ∙ places_below ps here None h d in
+      ap (λ (x : Separators). flat_map (children_at ps) (children x None)) (sym e) ∙ places_below ps here None h d in
       ap (λ (x : List ℕ). finding_below s ps n 1 x (flat_map (children_at ps) (children ns None))) (met_after index_under ns met)
       ∙ ap (λ (x : List Place). finding_below s ps n 1 (pids here ++ met) x) places
 
   -- ---- down the levels
 
   -- if there is no finding, each level is in order
-  parts_of_none : (n : ℕ) (ns : Names) (above : List (List (Placed ℕ))) → AreNamed ns above → next_key ns None ≡ Some [] → AreSpaced ns None → Distinct (flat_map pids above)
+  parts_of_none : (n : ℕ) (ns : Separators) (above : List (List (Placed ℕ))) → AreNamed ns above → next_key ns None ≡ Some [] → AreSpaced ns None → Distinct (flat_map pids above)
       → AreAbove s ps above → finding_below s ps n (least_under above) (flat_map pids above) (children ns None) ≡ None → AreParts s ps (levels_below ps n (values_of ns) above)
   parts_of_none zero ns above m f r d a h =
       let met : List ℕ = flat_map pids above in
@@ -117,7 +117,7 @@ module _ (s : Settings) (ps : List (ℕ × PageOfKind)) where
       let none : unmet (pids here ++ met) ps ≡ None = ap (λ (x : List ℕ). unmet x ps) (sym (met_after leaf_under ns met)) ∙ both.1 in
       record {
         leaves = record {
-          named = subst (λ (x : Names). AreNamed x above) (sym own.0) m;
+          named = subst (λ (x : Separators). AreNamed x above) (sym own.0) m;
           first = first_of_named here ns own.0 f;
           level = own.1;
         };
@@ -133,7 +133,7 @@ module _ (s : Settings) (ps : List (ℕ × PageOfKind)) where
       let headed : AreHeaded 1 here = headed_under s above here own.1.good in
       let first : next_low here None ≡ Some [] = first_of_named here ns own.0 f in
       let level : IsLevelUnder (HasIndex ps) (IsGoodIndex s least) here above = record {
-        named = subst (λ (x : Names). AreNamed x above) (sym own.0) m;
+        named = subst (λ (x : Separators). AreNamed x above) (sym own.0) m;
         first = first;
         level = own.1;
       } in
@@ -148,7 +148,7 @@ module _ (s : Settings) (ps : List (ℕ × PageOfKind)) where
       (above_here n (values_of (joined here)) (here ∷ above) a).1
 
   -- if each level is in order, there is no finding
-  none_of_parts : (n : ℕ) (ns : Names) (above : List (List (Placed ℕ))) → AreNamed ns above → next_key ns None ≡ Some [] → AreParts s ps (levels_below ps n (values_of ns) above)
+  none_of_parts : (n : ℕ) (ns : Separators) (above : List (List (Placed ℕ))) → AreNamed ns above → next_key ns None ≡ Some [] → AreParts s ps (levels_below ps n (values_of ns) above)
       → finding_below s ps n (least_under above) (flat_map pids above) (children ns None) ≡ None
   none_of_parts zero ns above m f a =
       let met : List ℕ = flat_map pids above in
@@ -173,7 +173,7 @@ module _ (s : Settings) (ps : List (ℕ × PageOfKind)) where
 -- nothing is found in a tree exactly if it is proper
 pub nothing_found : (s : Settings) (t : Tree) → IsTree t → (finding s t ≡ None) ↔ IsProper s t
 nothing_found s t k =
-    let root : Names = ([], t.root) ∷ [] in (
+    let root : Separators = ([], t.root) ∷ [] in (
       λ h. proper_of_parts s t k (parts_of_none s t.pages (pred t.height) root [] refl refl (tt, tt) tt tt h),
       λ p. none_of_parts s t.pages (pred t.height) root [] refl refl (parts_of_proper s t p),
     )

@@ -3,7 +3,7 @@ use Rattle.std.specs.Prelude.{ℕ, zero, suc, pred, List, [], ◌∷◌, ◌++�
 use Rattle.std.specs.Ordering.{nat_cmp}
 use Rattle.std.specs.Map.{values_of}
 use Rattle.std.specs.BTreeMap.{insert_entry}
-use Rattle.keys.specs.Bytes.{Bytes, Pairs, Names}
+use Rattle.keys.specs.Bytes.{Bytes, Pairs, Separators}
 use Rattle.index_page.specs.Page as page
 use Rattle.index_page.specs.Page.{Page, PageOfKind, bare}
 use Rattle.index_page.specs.Page.PageOfKind.{Leaf, Index}
@@ -25,7 +25,7 @@ joined ps = flat_map entries ps
 abbrev pub name : {V : Type 0} → Placed V → Bytes × ℕ
 name p = (p.page.low, p.pid)
 
-abbrev pub names : {V : Type 0} → List (Placed V) → Names
+abbrev pub names : {V : Type 0} → List (Placed V) → Separators
 names ps = map name ps
 
 abbrev pub pids : {V : Type 0} → List (Placed V) → List ℕ

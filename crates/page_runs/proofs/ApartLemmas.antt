@@ -4,7 +4,7 @@ use Rattle.std.proofs.Common.{refl, sym, ap, ◌∙◌}
 use Rattle.std.specs.List.{filter}
 use Rattle.std.specs.Option.{option_map_or}
 use Rattle.std.specs.Ordering.{is_eq}
-use Rattle.keys.specs.Footprint.{Span, One, Range, Deed, span_of, deed_of}
+use Rattle.keys.specs.Footprint.{Span, One, Range, Access, span_of, access_of}
 use Rattle.keys.specs.Order.{order, IsRising}
 use Rattle.keys.specs.OrderedMap.{value_at, with_pair}
 use Rattle.keys.specs.Step.{reply_to, map_after, replies_to, map_after_all}
@@ -56,11 +56,11 @@ said_same false false q m x e f = refl
 
 -- ---- one command
 
-on_single : (s : Span) (d : Deed) (k q : List ℕ) → single_of s ≡ Some k → is_on s d q ≡ is_eq (order q k)
+on_single : (s : Span) (d : Access) (k q : List ℕ) → single_of s ≡ Some k → is_on s d q ≡ is_eq (order q k)
 on_single (One j) d k q h = let same : j ≡ k = cc in ap (λ (i : List ℕ). is_eq (order q i)) same
 on_single (Range lo hi) d k q h = absurd (cc)
 
-off_single : (is_own : List ℕ → Bool) (s : Span) (d : Deed) → ((q : List ℕ) → is_own q ≡ true → is_on s d q ≡ false) → option_map_or is_own (single_of s) false ≡ false
+off_single : (is_own : List ℕ → Bool) (s : Span) (d : Access) → ((q : List ℕ) → is_own q ≡ true → is_on s d q ≡ false) → option_map_or is_own (single_of s) false ≡ false
 off_single is_own (One k) d h = passes_not (is_own k) k (λ e. h k e)
 off_single is_own (Range lo hi) d h = refl
 
@@ -72,7 +72,7 @@ not_deleted false x k q e n = never_both (is_some (value_at k x))
 module _ {A : Type 0} where
   -- a command on one key is on that key and no other
   is_on_key-single_key : (c : Command A) (k q : List ℕ) → single_key c ≡ Some k → is_on_key c q ≡ is_eq (order q k)
-  is_on_key-single_key c k q h = on_single (span_of c) (deed_of c) k q h
+  is_on_key-single_key c k q h = on_single (span_of c) (access_of c) k q h
 
   pub within_by_key : (is_own : List ℕ → Bool) (c : Command A) (k : List ℕ) → single_key c ≡ Some k → is_own k ≡ true → IsWithin is_own c
   within_by_key is_own c k h n = λ q o. is_on_key-single_key c k q h ∙ own_key is_own q k o n
@@ -138,7 +138,7 @@ module _ {A : Type 0} where
 
   -- a command off some keys isn't on one of them
   off_one : (is_own : List ℕ → Bool) (c : Command A) → IsOff is_own c → is_on_one is_own c ≡ false
-  off_one is_own c h = off_single is_own (span_of c) (deed_of c) h
+  off_one is_own c h = off_single is_own (span_of c) (access_of c) h
 
   -- a command touches no absent key but one that it gives a value
   untouched_absent : (x : Pairs) (c : Command A) (q : List ℕ) → gives_key c q ≡ false → value_at q x ≡ None → touches q x c ≡ false

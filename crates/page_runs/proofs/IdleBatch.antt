@@ -29,7 +29,7 @@ use Rattle.routing.proofs.RunLemmas.{in_wipe, reaching_ranged, IsFirst, first_fo
 use Rattle.routing.proofs.SliceLemmas.{among-filter}
 use Rattle.routing.proofs.SortLemmas.{among_itself}
 use Rattle.page_runs.specs.NetRun.{noted_by, touched, net_run}
-use Rattle.page_runs.specs.Reads.{is_look}
+use Rattle.page_runs.specs.Reads.{is_read_only}
 use Rattle.page_runs.specs.Replies.{commands_at, pieces_of}
 use Rattle.page_runs.proofs.PageParts.{Pairs, map_after-part}
 
@@ -304,21 +304,21 @@ module _ {A : Type 0} (cs : List (Command A)) where
   and_false false = refl
 
   -- if one of the commands doesn't only read, they don't all only read
-  not_all_look : (w : ℕ) (d : Command A) → slice_get cs w ≡ Some d → is_look d ≡ false → (ps : List ℕ) → is_among w ps ≡ true → list_all is_look (commands_at cs ps) ≡ false
+  not_all_look : (w : ℕ) (d : Command A) → slice_get cs w ≡ Some d → is_read_only d ≡ false → (ps : List ℕ) → is_among w ps ≡ true → list_all is_read_only (commands_at cs ps) ≡ false
   not_all_look w d e l [] h = absurd (cc)
   not_all_look w d e l (p ∷ ps) h = by (nat_eq w p) refl h (not_all_look w d e l ps)
     where
-      by : (b : Bool) → nat_eq w p ≡ b → (b || is_among w ps) ≡ true → (is_among w ps ≡ true → list_all is_look (commands_at cs ps) ≡ false) → list_all is_look (commands_at cs (p ∷ ps)) ≡ false
+      by : (b : Bool) → nat_eq w p ≡ b → (b || is_among w ps) ≡ true → (is_among w ps ≡ true → list_all is_read_only (commands_at cs ps) ≡ false) → list_all is_read_only (commands_at cs (p ∷ ps)) ≡ false
       by true f h g =
           let same : w ≡ p = eqb-true w p f in
           let there : slice_get cs p ≡ Some d = subst (λ (i : ℕ). slice_get cs i ≡ Some d) same e in
-          ap (λ (o : Option (Command A)). list_all is_look (option_to_list o ++ commands_at cs ps)) there ∙ rw l refl
+          ap (λ (o : Option (Command A)). list_all is_read_only (option_to_list o ++ commands_at cs ps)) there ∙ rw l refl
       by false f h g =
-          list_all-append is_look (option_to_list (slice_get cs p)) (commands_at cs ps) ∙ ap (λ (b : Bool). list_all is_look (option_to_list (slice_get cs p)) && b) (g h) ∙ and_false (list_all is_look (option_to_list (slice_get cs p)))
+          list_all-append is_read_only (option_to_list (slice_get cs p)) (commands_at cs ps) ∙ ap (λ (b : Bool). list_all is_read_only (option_to_list (slice_get cs p)) && b) (g h) ∙ and_false (list_all is_read_only (option_to_list (slice_get cs p)))
 
 module _ {A : Type 0} (low : List ℕ) (end : Option (List ℕ)) where
   -- a command that deletes all of a page doesn't only read
-  taking : (c : Command A) → takes_page low end c ≡ true → is_look c ≡ false
+  taking : (c : Command A) → takes_page low end c ≡ true → is_read_only c ≡ false
   taking (Get k) h = absurd (cc)
   taking (Put k v) h = absurd (cc)
   taking (Add k v) h = absurd (cc)
@@ -326,7 +326,7 @@ module _ {A : Type 0} (low : List ℕ) (end : Option (List ℕ)) where
   taking (Scan lo hi limit) h = absurd (let n = (and_parts (is_between lo hi low) false h).1 in cc)
   taking (Wipe lo hi) h = refl
 
-  taking_with_end : (e : Option (List ℕ)) (d : Command A) → takes_page low end (with_end e d) ≡ true → is_look d ≡ false
+  taking_with_end : (e : Option (List ℕ)) (d : Command A) → takes_page low end (with_end e d) ≡ true → is_read_only d ≡ false
   taking_with_end None d h = taking d h
   taking_with_end (Some x) (Get k) h = taking (Get k) h
   taking_with_end (Some x) (Put k v) h = taking (Put k v) h
@@ -335,7 +335,7 @@ module _ {A : Type 0} (low : List ℕ) (end : Option (List ℕ)) where
   taking_with_end (Some x) (Scan lo hi limit) h = absurd (let n = (and_parts (is_between lo (Some x) low) false h).1 in cc)
   taking_with_end (Some x) (Wipe lo hi) h = refl
 
-  taking_by : (e : Option (List ℕ)) (o : Option (Command A)) (c : Command A) → option_map (with_end e) o ≡ Some c → takes_page low end c ≡ true → (d : Command A) × (o ≡ Some d) × (is_look d ≡ false)
+  taking_by : (e : Option (List ℕ)) (o : Option (Command A)) (c : Command A) → option_map (with_end e) o ≡ Some c → takes_page low end c ≡ true → (d : Command A) × (o ≡ Some d) × (is_read_only d ≡ false)
   taking_by e None c h t = absurd (cc)
   taking_by e (Some d) c h t = let same : with_end e d ≡ c = cc in (d, refl, taking_with_end e d (ap (λ (x : Command A). takes_page low end x) same ∙ t))
 
@@ -347,8 +347,8 @@ module _ {A : Type 0} (low : List ℕ) (end : Option (List ℕ)) where
     stays_by true w e n = refl
     stays_by false w e n = absurd (let t = idle w e in cc)
 
-    looks_by : (ps : List ℕ) → ps ≡ places_within low end ended → (filter keeps ps ≡ ps) ⊎ ((p : ℕ) × (is_among p ps ≡ true) × (keeps p ≡ false)) → list_all is_look (commands_at cs (filter keeps ps)) ≡ list_all is_look (commands_at cs ps)
-    looks_by ps same (inl h) = ap (λ (qs : List ℕ). list_all is_look (commands_at cs qs)) h
+    looks_by : (ps : List ℕ) → ps ≡ places_within low end ended → (filter keeps ps ≡ ps) ⊎ ((p : ℕ) × (is_among p ps ≡ true) × (keeps p ≡ false)) → list_all is_read_only (commands_at cs (filter keeps ps)) ≡ list_all is_read_only (commands_at cs ps)
+    looks_by ps same (inl h) = ap (λ (qs : List ℕ). list_all is_read_only (commands_at cs qs)) h
     looks_by ps same (inr h) =
         let first : IsFirst (takes_page low end) ended h.0 = first_found (takes_page low end) ended h.0 (idle_parts ended low end h.0 (idle h.0 h.2)).taken in
         let w : ℕ = first.at in
@@ -360,5 +360,5 @@ module _ {A : Type 0} (low : List ℕ) (end : Option (List ℕ)) where
         not_all_look cs w own.0 own.1 own.2 (filter keeps ps) stays ∙ sym (not_all_look cs w own.0 own.1 own.2 ps there)
 
     -- a page's commands without the idle ones all only read if all commands do
-    pub looks-kept : list_all is_look (commands_at cs (filter keeps (places_within low end ended))) ≡ list_all is_look (commands_at cs (places_within low end ended))
+    pub looks-kept : list_all is_read_only (commands_at cs (filter keeps (places_within low end ended))) ≡ list_all is_read_only (commands_at cs (places_within low end ended))
     looks-kept = looks_by (places_within low end ended) refl (kept_or_not keeps (places_within low end ended))

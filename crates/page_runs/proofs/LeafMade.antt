@@ -10,16 +10,16 @@ use Rattle.keys.specs.declared.settings.Settings.{Settings}
 use Rattle.crew.specs.Turn.{IfDone}
 use Rattle.crew.specs.declared.Turn.{Turn}
 use Rattle.crew.specs.declared.Turn.TheVariants.{Done, Back}
-use Rattle.delta_chain.specs.Late.{Late, seen}
+use Rattle.delta_chain.specs.Lazy.{Lazy, seen}
 use Rattle.delta_chain.specs.Layers.{Layers, entries_of}
-use Rattle.delta_chain.proofs.LateLemmas.{entries-seen}
+use Rattle.delta_chain.proofs.LazyLemmas.{entries-seen}
 use Rattle.index_page.specs.InMemory.InMemory.{LeafInMemory}
 use Rattle.index_page.specs.Page.{PageOfKind}
 use Rattle.index_page.specs.Page.PageOfKind.{Leaf}
 use Rattle.routing.specs.Routes.{Route}
 use Rattle.page_runs.specs.AfterRun.{after_run, class_after, is_replaced}
 use Rattle.page_runs.specs.LeafOutcome.{leaf_class_now, is_leaf_replaced_now}
-use Rattle.page_runs.specs.LeafWork.{LeafMade, LeafWorked, leaf_made, leaf_worked}
+use Rattle.page_runs.specs.LeafWork.{LeafMade, LeafUpdate, leaf_made, leaf_updated}
 use Rattle.page_runs.specs.NetRun.{net_run}
 use Rattle.page_runs.specs.Replies.{commands_at, pieces_of}
 use Rattle.page_runs.specs.declared.class.Class.{Class}
@@ -28,11 +28,11 @@ use Rattle.page_runs.specs.declared.leaf_after.LeafWayBack.{LeafWayBack}
 -- the output for a leaf, from the page and the facts about it
 abbrev Made : Route → Bytes → Layers Bytes → Class → Bool → List (Piece Global) → LeafMade
 Made route low layers class replaced pieces = record {
-  worked = record { placed = record { pid = route.pid; page = record { low = low; layers = layers } }; class = class; replaced = replaced };
+  updated = record { placed = record { pid = route.pid; page = record { low = low; layers = layers } }; class = class; replaced = replaced };
   pieces = pieces;
 }
 
-module _ (s : Settings) (batch : List (Command Global)) (route : Route) (low : Bytes) (c after : Late Bytes) (way_back : LeafWayBack) where
+module _ (s : Settings) (batch : List (Command Global)) (route : Route) (low : Bytes) (c after : Lazy Bytes) (way_back : LeafWayBack) where
   abbrev Run : Changes Bytes
   Run = net_run (entries_of (seen c)) (commands_at batch route.places)
 
@@ -41,7 +41,7 @@ module _ (s : Settings) (batch : List (Command Global)) (route : Route) (low : B
 
   -- the leaf, its class and whether it was replaced
   made_by : (run : Changes Bytes) (pieces : List (Piece Global)) → seen after ≡ after_run s (seen c) run → leaf_class_now way_back ≡ class_after s (seen c) run → is_leaf_replaced_now way_back ≡ is_replaced s (seen c) run
-      → (leaf_worked (LeafInMemory low after) way_back route pieces).made ≡ After run pieces
+      → (leaf_updated (LeafInMemory low after) way_back route pieces).made ≡ After run pieces
   made_by run pieces page class replaced =
       ap (λ (l : Layers Bytes). Made route low l (leaf_class_now way_back) (is_leaf_replaced_now way_back) pieces) page
       ∙ ap (λ (k : Class). Made route low (after_run s (seen c) run) k (is_leaf_replaced_now way_back) pieces) class
@@ -52,7 +52,7 @@ module _ (s : Settings) (batch : List (Command Global)) (route : Route) (low : B
       → job ≡ Leaf (record { low = low; layers = seen c }) → whole ≡ c.chain → places ≡ route.places
       → run ≡ net_run (entries_of whole) (commands_at batch places) → pieces ≡ pieces_of places (replies_to (entries_of whole) (commands_at batch places))
       → seen after ≡ after_run s (seen c) run → leaf_class_now way_back ≡ class_after s (seen c) run → is_leaf_replaced_now way_back ≡ is_replaced s (seen c) run
-      → (leaf_worked (LeafInMemory low after) way_back route pieces).made ≡ leaf_made s batch (record { page = job; route = route })
+      → (leaf_updated (LeafInMemory low after) way_back route pieces).made ≡ leaf_made s batch (record { page = job; route = route })
   made_in_memory job whole places run pieces is memory at ran said page class replaced =
       let same : entries_of whole ≡ entries_of (seen c) = ap (λ (p : Layers Bytes). entries_of p) memory ∙ sym (entries-seen c) in
       made_by run pieces page class replaced
@@ -63,6 +63,6 @@ module _ (s : Settings) (batch : List (Command Global)) (route : Route) (low : B
       ∙ sym (ap (λ (p : PageOfKind). leaf_made s batch (record { page = p; route = route })) is)
 
 -- properties of a leaf's output hold for the output of the job
-pub done_made : {J : Type 0} (turn : Turn J LeafWorked) (leaf : LeafWorked) (made : LeafMade) → IfDone turn (λ done. done ≡ leaf) → leaf.made ≡ made → IfDone turn (λ done. done.made ≡ made)
-done_made (Done d) leaf made h e = ap (λ (w : LeafWorked). w.made) h ∙ e
+pub done_made : {J : Type 0} (turn : Turn J LeafUpdate) (leaf : LeafUpdate) (made : LeafMade) → IfDone turn (λ done. done ≡ leaf) → leaf.made ≡ made → IfDone turn (λ done. done.made ≡ made)
+done_made (Done d) leaf made h e = ap (λ (w : LeafUpdate). w.made) h ∙ e
 done_made (Back j) leaf made h e = tt

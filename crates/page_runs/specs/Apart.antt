@@ -3,7 +3,7 @@ use Rattle.std.specs.Prelude.{◌≡◌, Bool, true, false, ◌&&◌, List, [], 
 use Rattle.std.specs.Option.{option_map_or}
 use Rattle.std.specs.Ordering.{is_eq}
 use Rattle.keys.specs.Bytes.{Bytes, Pairs}
-use Rattle.keys.specs.Footprint.{Span, One, Range, Deed, Looks, Gives, Takes, span_of, deed_of, is_in_span}
+use Rattle.keys.specs.Footprint.{Span, One, Range, Access, Looks, Gives, Takes, span_of, access_of, is_in_span}
 use Rattle.keys.specs.Order.{order}
 use Rattle.keys.specs.OrderedMap.{value_at}
 use Rattle.keys.specs.Range.{is_within}
@@ -11,14 +11,14 @@ use Rattle.keys.specs.declared.command.Command.{Command}
 use Rattle.keys.specs.declared.command.Reply.{Reply}
 
 -- whether a span and what is done to it concern the key; reading a range concerns no key
-abbrev pub is_on : Span → Deed → Bytes → Bool
+abbrev pub is_on : Span → Access → Bytes → Bool
 is_on (One k) deed q = is_eq (order q k)
 is_on (Range lo hi) Looks q = false
 is_on (Range lo hi) deed q = is_within lo hi q
 
 -- whether the command is on the key; a scan is on no key, and a wipe on each key of its range
 abbrev pub is_on_key : {A : Type 0} → Command A → Bytes → Bool
-is_on_key c q = is_on (span_of c) (deed_of c) q
+is_on_key c q = is_on (span_of c) (access_of c) q
 
 -- the key of a span of a single key
 abbrev pub single_of : Span → Option Bytes
@@ -30,14 +30,14 @@ abbrev pub single_key : {A : Type 0} → Command A → Option Bytes
 single_key c = single_of (span_of c)
 
 -- whether a command of this kind may set values
-abbrev pub is_giving : Deed → Bool
+abbrev pub is_giving : Access → Bool
 is_giving Looks = false
 is_giving (Gives v) = true
 is_giving Takes = false
 
 -- whether the command may set the value of the key
 abbrev pub gives_key : {A : Type 0} → Command A → Bytes → Bool
-gives_key c q = is_giving (deed_of c) && is_in_span (span_of c) q
+gives_key c q = is_giving (access_of c) && is_in_span (span_of c) q
 
 -- whether the command is on a single key, which is one of these keys
 abbrev pub is_on_one : {A : Type 0} → (Bytes → Bool) → Command A → Bool

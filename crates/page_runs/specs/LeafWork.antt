@@ -6,7 +6,7 @@ use Rattle.keys.specs.Step.{replies_to}
 use Rattle.keys.specs.declared.command.Command.{Command}
 use Rattle.keys.specs.declared.piece.Piece.{Piece}
 use Rattle.keys.specs.declared.settings.Settings.{Settings}
-use Rattle.delta_chain.specs.Late.{Late, seen}
+use Rattle.delta_chain.specs.Lazy.{Lazy, seen}
 use Rattle.index_page.specs.InMemory.{InMemory, page_shown}
 use Rattle.index_page.specs.InMemory.InMemory.{LeafInMemory, IndexInMemory}
 use Rattle.index_page.specs.Page.{PageOfKind, IsLeaf, leaf_of, entries}
@@ -16,7 +16,7 @@ use Rattle.routing.specs.Routes.{Route}
 use Rattle.page_runs.specs.NetRun.{net_run}
 use Rattle.page_runs.specs.LeafOutcome.{leaf_before, CanUndoLeaf, leaf_class_now, is_leaf_replaced_now}
 use Rattle.page_runs.specs.Replies.{commands_at, pieces_of, ArePlacesOf}
-use Rattle.page_runs.specs.Worked.{Worked, worked}
+use Rattle.page_runs.specs.Updated.{Updated, updated}
 use Rattle.page_runs.specs.declared.leaf_work.LeafJob.{LeafJob}
 use Rattle.page_runs.specs.declared.leaf_after.LeafWayBack.{LeafWayBack}
 
@@ -27,7 +27,7 @@ pub record LeafHeld : Type 0 where
 
 -- the leaf afterwards, under its pid, its class, whether it was replaced, and its answers with their places
 pub record LeafMade : Type 0 where
-  pub worked : Worked Bytes
+  pub updated : Updated Bytes
   pub pieces : List (Piece Global)
 
 -- a valid input: the page is a leaf, and its commands' places are places of the batch
@@ -47,7 +47,7 @@ leaf_answers batch h = pieces_of h.route.places (replies_to (entries (leaf_of h.
 abbrev pub leaf_made : Settings → List (Command Global) → LeafHeld → LeafMade
 leaf_made s batch h =
     record {
-      worked = worked s (placed_leaf h) (net_run (entries (leaf_of h.page)) (commands_at batch h.route.places));
+      updated = updated s (placed_leaf h) (net_run (entries (leaf_of h.page)) (commands_at batch h.route.places));
       pieces = leaf_answers batch h;
     }
 
@@ -56,23 +56,23 @@ abbrev pub leaf_held_of : LeafJob → LeafHeld
 leaf_held_of j = record { page = j.page; route = j.page_run }
 
 -- the work on a leaf: its input and its output
-pub record LeafWorked : Type 0 where
+pub record LeafUpdate : Type 0 where
   pub held : LeafHeld
   pub made : LeafMade
 
 -- the values of a leaf in memory; an index page counts as an empty leaf
-abbrev pub late_of : InMemory → Late Bytes
-late_of (LeafInMemory low c) = c
-late_of (IndexInMemory low p) = record { chain = record { runs = []; base = [] }; settled = 0 }
+abbrev pub lazy_of : InMemory → Lazy Bytes
+lazy_of (LeafInMemory low c) = c
+lazy_of (IndexInMemory low p) = record { chain = record { runs = []; base = [] }; merged_runs = 0 }
 
 -- the work on a leaf, from the leaf now and what undoes the run
-abbrev pub leaf_worked : InMemory → LeafWayBack → Route → List (Piece Global) → LeafWorked
-leaf_worked page way_back route pieces =
+abbrev pub leaf_updated : InMemory → LeafWayBack → Route → List (Piece Global) → LeafUpdate
+leaf_updated page way_back route pieces =
     let now = leaf_of (page_shown page) in
     record {
-      held = record { page = Leaf (record { low = now.low; layers = seen (leaf_before (late_of page) way_back) }); route = route };
+      held = record { page = Leaf (record { low = now.low; layers = seen (leaf_before (lazy_of page) way_back) }); route = route };
       made = record {
-        worked = record { placed = record { pid = route.pid; page = now }; class = leaf_class_now way_back; replaced = is_leaf_replaced_now way_back };
+        updated = record { placed = record { pid = route.pid; page = now }; class = leaf_class_now way_back; replaced = is_leaf_replaced_now way_back };
         pieces = pieces;
       };
     }

@@ -10,4 +10,4 @@ pub mod Replay
 pub mod Reads
 pub mod Replies
 pub mod TermWork
-pub mod Worked
+pub mod Updated

@@ -2,7 +2,7 @@
 use Rattle.std.specs.Prelude.{Bool, ⊤, List, [], Option, Some, None}
 use Rattle.std.specs.List.{list_all}
 use Rattle.std.specs.declared.alloc.Global.{Global}
-use Rattle.keys.specs.Footprint.{deed_of, is_looking}
+use Rattle.keys.specs.Footprint.{access_of, is_reading}
 use Rattle.keys.specs.declared.command.Command.{Command}
 use Rattle.keys.specs.declared.piece.Piece.{Piece}
 use Rattle.index_page.specs.Page.{PageOfKind}
@@ -14,12 +14,12 @@ use Rattle.page_runs.specs.LeafWork.{leaf_answers}
 use Rattle.page_runs.specs.Replies.{commands_at, ArePlacesOf}
 
 -- whether the command leaves every map unchanged
-abbrev pub is_look : {A : Type 0} → Command A → Bool
-is_look c = is_looking (deed_of c)
+abbrev pub is_read_only : {A : Type 0} → Command A → Bool
+is_read_only c = is_reading (access_of c)
 
 -- whether all of a page's commands do
 abbrev pub is_only_read : {A : Type 0} → List (Command A) → Route → Bool
-is_only_read batch r = list_all is_look (commands_at batch r.places)
+is_only_read batch r = list_all is_read_only (commands_at batch r.places)
 
 -- the place has a leaf that is not checked out
 abbrev pub IsLeafAt : Option PageOfKind → Type 0

@@ -99,7 +99,7 @@ impl Changes {
             }
         }
         let bytes = key.as_bytes();
-        find_lent(page.lent_for(bytes), bytes, &mut Probes::new())
+        find_lent(page.runs_for(bytes), bytes, &mut Probes::new())
     }
 
     pub(crate) fn from_key<'a>(&'a self, low: &'a Key<Global>) -> ChangesFrom<'a>

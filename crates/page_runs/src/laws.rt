@@ -41,7 +41,7 @@ pub fn a_page_after_a_run_has_the_run_applied<V>()
 /// the net run has the changes of the net run of all commands. The net run contains no other key if no command on
 /// another key is executed, or if the map has no other key and no executed command sets one. A command on a single key
 /// is on one of these keys if and only if its key is.
-pub fn commands_on_some_keys_are_worked_apart<A: Allocator>()
+pub fn commands_on_some_keys_can_be_executed_apart<A: Allocator>()
     ensures replies { (is_own : Bytes → Bool) (is_taken : Command A → Bool)
         (m x : Pairs Bytes) (cs : List (Command A)) →
         TakesAll is_own is_taken → IsRising m → IsRising x → AgreeOn is_own m x →

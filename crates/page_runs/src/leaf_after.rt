@@ -2,7 +2,7 @@
 //! when too much would lie over the old base, or when the class of the leaf does not follow from the bounds on its
 //! number of entries.
 ghost use Rattle.std.specs.Prelude.{◌≡◌, ◌<◌, ◌≤◌, ℕ, [], true, length, min, IfOk, IfErr, IfSome};
-ghost use Rattle.delta_chain.specs.Late.{seen};
+ghost use Rattle.delta_chain.specs.Lazy.{seen};
 ghost use Rattle.delta_chain.specs.Layers.{entries_of, with_run};
 ghost use Rattle.page_runs.specs.AfterRun.{must_replace, after_run, class_after, class_of_size, is_replaced};
 ghost use Rattle.page_runs.specs.LeafOutcome.{leaf_before, without_newest, CanUndoLeaf, leaf_class_now, is_leaf_replaced_now};
@@ -10,7 +10,7 @@ ghost use Rattle.page_runs.specs.LeafOutcome.{leaf_before, without_newest, CanUn
 use crate::changes::LeafRun;
 use crate::class::Class;
 use crate::page_after::{WayBack, replace};
-use delta_chain::{Chain, EntryBounds, LateChain};
+use delta_chain::{Chain, EntryBounds, LazyChain};
 use keys::{Settings, Value};
 use std::alloc::Global;
 
@@ -22,7 +22,7 @@ const PENDING_RUNS: usize = 16;
 const PENDING_CHANGES: usize = 32;
 
 /// The values of a leaf.
-pub(crate) type LateValues = LateChain<Value<Global>, Global>;
+pub(crate) type LazyValues = LazyChain<Value<Global>, Global>;
 
 /// What is needed to undo a run on a leaf.
 #[derive(Drop)]
@@ -31,15 +31,15 @@ pub(crate) enum LeafWayBack {
     Same(LeafRun),
     /// The run was prepended to the leaf.
     InFront,
-    /// All runs, including the new one, now count as merged. Before, the oldest `settled` of them did.
-    Settled {
+    /// All runs, including the new one, now count as merged. Before, the oldest `merged_runs` of them did.
+    AllMerged {
         class: Class,
-        settled: usize,
+        merged_runs: usize,
     },
-    /// The leaf was rebuilt. Before, `settled` runs counted as merged.
+    /// The leaf was rebuilt. Before, `merged_runs` runs counted as merged.
     Replaced {
         way_back: WayBack<Value<Global>>,
-        settled: usize,
+        merged_runs: usize,
     },
 }
 
@@ -49,10 +49,10 @@ pub(crate) enum LeafWayBack {
 pub(crate) fn put_leaf_run(
     alloc: Global,
     settings: &Settings,
-    page: LateValues,
+    page: LazyValues,
     run: LeafRun,
     bounds: EntryBounds,
-) -> Result<(LateValues, LeafWayBack), LateValues>
+) -> Result<(LazyValues, LeafWayBack), LazyValues>
     requires fewest { bounds.fewest ≤ length (with_run (entries_of page.chain) run) }
     requires most { min (length (with_run (entries_of page.chain) run)) usize.MAX ≤ bounds.most }
     ensures page { IfOk result (λ after. seen after.0 ≡ after_run settings.now (seen page) run) }
@@ -69,7 +69,7 @@ pub(crate) fn put_leaf_run(
     }
     let must_replace = must_replace_leaf(settings, &page, &run);
     // Only for the proof: no more runs count as merged than there are.
-    let _settled = page.settled();
+    let _settled = page.merged_runs();
     let mut page = page;
     match page.prepend(run) {
         Err((_refused, _run)) => Err(page),
@@ -79,7 +79,7 @@ pub(crate) fn put_leaf_run(
 }
 
 // Whether the leaf must be replaced: the run is longer than `fan`, or would give the leaf more runs than `chain`.
-fn must_replace_leaf(settings: &Settings, page: &LateValues, run: &LeafRun) -> bool
+fn must_replace_leaf(settings: &Settings, page: &LazyValues, run: &LeafRun) -> bool
     ensures { result ≡ must_replace settings.now (seen page.now) run.now }
 {
     run.len() > settings.fan as usize || page.depth() >= u64::from(settings.chain)
@@ -90,10 +90,10 @@ fn must_replace_leaf(settings: &Settings, page: &LateValues, run: &LeafRun) -> b
 fn replace_leaf(
     alloc: Global,
     settings: &Settings,
-    page: LateValues,
+    page: LazyValues,
     bounds: EntryBounds,
-) -> Result<(LateValues, LeafWayBack), LateValues>
-    requires some { page.settled < length page.chain.runs }
+) -> Result<(LazyValues, LeafWayBack), LazyValues>
+    requires some { page.merged_runs < length page.chain.runs }
     requires fewest { bounds.fewest ≤ length (entries_of page.chain) }
     requires most { min (length (entries_of page.chain)) usize.MAX ≤ bounds.most }
     ensures page { IfOk result
@@ -106,7 +106,7 @@ fn replace_leaf(
     ensures back { IfErr result (λ again. again ≡ without_newest page) }
 {
     match class_within(settings, bounds) {
-        Some(class) if is_called(class) || is_little(&page) => Ok(settle(page, class)),
+        Some(class) if is_called(class) || is_little(&page) => Ok(mark_all_merged(page, class)),
         _ => merge(alloc, settings, page),
     }
 }
@@ -135,32 +135,32 @@ fn is_called(class: Class) -> bool {
 }
 
 // Whether few enough runs and changes lie over the base in memory.
-fn is_little(page: &LateValues) -> bool {
+fn is_little(page: &LazyValues) -> bool {
     page.whole().run_count() <= PENDING_RUNS && page.whole().change_count() <= PENDING_CHANGES
 }
 
 // Counts all runs as merged.
-fn settle(page: LateValues, class: Class) -> (LateValues, LeafWayBack)
-    requires { page.settled < length page.chain.runs }
+fn mark_all_merged(page: LazyValues, class: Class) -> (LazyValues, LeafWayBack)
+    requires { page.merged_runs < length page.chain.runs }
     ensures page { seen result.0 ≡ record { runs = []; base = entries_of page.chain } }
     ensures class { leaf_class_now result.1 ≡ class }
     ensures replaced { is_leaf_replaced_now result.1 ≡ true }
     ensures can_undo { CanUndoLeaf result.0 result.1 }
     ensures before { leaf_before result.0 result.1 ≡ without_newest page }
 {
-    let settled = page.settled();
+    let merged_runs = page.merged_runs();
     let mut page = page;
-    page.settle();
-    (page, LeafWayBack::Settled { class, settled })
+    page.mark_all_merged();
+    (page, LeafWayBack::AllMerged { class, merged_runs })
 }
 
 // Merges all runs into a new base.
 fn merge(
     alloc: Global,
     settings: &Settings,
-    page: LateValues,
-) -> Result<(LateValues, LeafWayBack), LateValues>
-    requires { page.settled < length page.chain.runs }
+    page: LazyValues,
+) -> Result<(LazyValues, LeafWayBack), LazyValues>
+    requires { page.merged_runs < length page.chain.runs }
     ensures page { IfOk result
         (λ after. seen after.0 ≡ record { runs = []; base = entries_of page.chain }) }
     ensures class { IfOk result (λ after. leaf_class_now after.1
@@ -170,56 +170,62 @@ fn merge(
     ensures before { IfOk result (λ after. leaf_before after.0 after.1 ≡ without_newest page) }
     ensures back { IfErr result (λ again. again ≡ without_newest page) }
 {
-    let settled = page.settled();
+    let merged_runs = page.merged_runs();
     match replace(alloc, settings, page.into_chain()) {
         Ok((chain, way_back)) => Ok((
-            LateChain::of(chain),
-            LeafWayBack::Replaced { way_back, settled },
+            LazyChain::of(chain),
+            LeafWayBack::Replaced {
+                way_back,
+                merged_runs,
+            },
         )),
-        Err((chain, _run)) => Err(late(chain, settled)),
+        Err((chain, _run)) => Err(late(chain, merged_runs)),
     }
 }
 
-// The chain with its oldest `settled` runs counted as merged.
-fn late(chain: Chain<Value<Global>, Global>, settled: usize) -> LateValues
-    requires { settled ≤ length chain.runs }
-    ensures { result ≡ record { chain = chain; settled = settled } }
+// The chain with its oldest `merged_runs` runs counted as merged.
+fn late(chain: Chain<Value<Global>, Global>, merged_runs: usize) -> LazyValues
+    requires { merged_runs ≤ length chain.runs }
+    ensures { result ≡ record { chain = chain; merged_runs = merged_runs } }
 {
-    let mut page = LateChain::of(chain);
-    page.unsettle(settled);
+    let mut page = LazyChain::of(chain);
+    page.set_merged_runs(merged_runs);
     page
 }
 
-// The leaf without its newest run; `settled` of the other runs count as merged.
-fn taken_off(page: LateValues, settled: usize) -> LateValues
-    requires { settled < length page.chain.runs }
-    ensures { result ≡ record { chain = (without_newest page).chain; settled = settled } }
+// The leaf without its newest run; `merged_runs` of the other runs count as merged.
+fn taken_off(page: LazyValues, merged_runs: usize) -> LazyValues
+    requires { merged_runs < length page.chain.runs }
+    ensures { result ≡ record { chain = (without_newest page).chain; merged_runs = merged_runs } }
 {
     let mut page = page;
     let _run = page.pop();
-    page.unsettle(settled);
+    page.set_merged_runs(merged_runs);
     page
 }
 
 impl LeafWayBack {
     /// Returns the leaf before the run. Does not allocate.
-    pub(crate) fn undo(self, alloc: Global, page: LateValues) -> LateValues
+    pub(crate) fn undo(self, alloc: Global, page: LazyValues) -> LazyValues
         requires { CanUndoLeaf page self }
         ensures { result ≡ leaf_before page self }
     {
         match self {
             LeafWayBack::Same(_run) => page,
             LeafWayBack::InFront => {
-                let settled = page.settled();
-                taken_off(page, settled)
+                let merged_runs = page.merged_runs();
+                taken_off(page, merged_runs)
             }
-            LeafWayBack::Settled {
+            LeafWayBack::AllMerged {
                 class: _class,
-                settled,
-            } => taken_off(page, settled),
-            LeafWayBack::Replaced { way_back, settled } => {
+                merged_runs,
+            } => taken_off(page, merged_runs),
+            LeafWayBack::Replaced {
+                way_back,
+                merged_runs,
+            } => {
                 let (chain, _run) = way_back.undo(alloc, page.into_chain());
-                late(chain, settled)
+                late(chain, merged_runs)
             }
         }
     }
@@ -230,7 +236,7 @@ impl LeafWayBack {
         match self {
             LeafWayBack::Same(_) => Class::Same,
             LeafWayBack::InFront => Class::Changed,
-            LeafWayBack::Settled { class, .. } => *class,
+            LeafWayBack::AllMerged { class, .. } => *class,
             LeafWayBack::Replaced { way_back, .. } => way_back.class(),
         }
     }
@@ -242,7 +248,7 @@ impl LeafWayBack {
         match self {
             LeafWayBack::Same(_) => false,
             LeafWayBack::InFront => false,
-            LeafWayBack::Settled { .. } => true,
+            LeafWayBack::AllMerged { .. } => true,
             LeafWayBack::Replaced { way_back, .. } => way_back.is_replaced(),
         }
     }

@@ -3,7 +3,7 @@ ghost use Rattle.std.specs.Prelude.{◌≡◌, []};
 ghost use Rattle.crew.specs.Turn.{IfDone, IfBack};
 ghost use Rattle.index_page.specs.InMemory.{page_shown};
 ghost use Rattle.index_page.specs.Page.PageOfKind.{Leaf};
-ghost use Rattle.page_runs.specs.LeafWork.{IsWorkedLeaf, leaf_held_of, leaf_worked};
+ghost use Rattle.page_runs.specs.LeafWork.{IsWorkedLeaf, leaf_held_of, leaf_updated};
 
 use crate::class::Class;
 use crate::leaf_after::{LeafWayBack, put_leaf_run};
@@ -54,11 +54,11 @@ struct KeptDone {
 }
 
 impl Model for LeafDone {
-    ghost use Rattle.page_runs.specs.LeafWork.{LeafWorked, leaf_worked, IsWorkedLeaf};
+    ghost use Rattle.page_runs.specs.LeafWork.{LeafUpdate, leaf_updated, IsWorkedLeaf};
 
-    ghost Value = { LeafWorked };
+    ghost Value = { LeafUpdate };
 
-    ghost view = { λ d. leaf_worked d.kept.value.page d.kept.value.way_back
+    ghost view = { λ d. leaf_updated d.kept.value.page d.kept.value.way_back
         d.kept.value.page_run d.kept.value.pieces };
 
     ghost invariant = { λ d. IsWorkedLeaf d.kept.value.page d.kept.value.way_back };
@@ -67,28 +67,28 @@ impl Model for LeafDone {
 impl LeafDone {
     /// Returns the leaf's class.
     pub fn class(&self) -> Class
-        ensures { result ≡ self.now.made.worked.class }
+        ensures { result ≡ self.now.made.updated.class }
     {
         self.kept.way_back.class()
     }
 
     /// Returns whether the leaf was replaced by a base, instead of getting a run in front.
     pub fn is_replaced(&self) -> bool
-        ensures { result ≡ self.now.made.worked.replaced }
+        ensures { result ≡ self.now.made.updated.replaced }
     {
         self.kept.way_back.is_replaced()
     }
 
     /// Returns the leaf's representation in memory.
     pub fn page(&self) -> &PageInMemory<Global>
-        ensures { page_shown result.now ≡ Leaf self.now.made.worked.placed.page }
+        ensures { page_shown result.now ≡ Leaf self.now.made.updated.placed.page }
     {
         &self.kept.page
     }
 
     /// Returns the leaf's page id.
     pub fn pid(&self) -> Pid
-        ensures { result ≡ self.now.made.worked.placed.pid }
+        ensures { result ≡ self.now.made.updated.placed.pid }
     {
         self.kept.page_run.pid()
     }
@@ -98,7 +98,7 @@ impl LeafDone {
         ensures pieces { result ≡ self.old.made.pieces }
         ensures rest { self.new ≡ record {
           held = self.old.held;
-          made = record { worked = self.old.made.worked; pieces = [] };
+          made = record { updated = self.old.made.updated; pieces = [] };
         } }
     {
         self.kept.pieces.take()
@@ -106,7 +106,7 @@ impl LeafDone {
 
     /// Splits into the leaf and the rest. The work can no longer be undone.
     pub fn into_page_and_rest(self) -> (Page<Global>, LeafRest)
-        ensures { result.0 ≡ Leaf self.made.worked.placed.page }
+        ensures { result.0 ≡ Leaf self.made.updated.placed.page }
     {
         let LeafDone { mut kept } = self;
         let empty = empty_leaf(*Box::allocator(&kept)).into_memory();
@@ -151,7 +151,7 @@ impl<'a> Work for LeafWork<'a> {
             page_run.places(),
         ) else {
             return Turn::Back(LeafJob {
-                page: Page::late_leaf(low, chain),
+                page: Page::lazy_leaf(low, chain),
                 page_run,
             });
         };
@@ -171,7 +171,7 @@ impl<'a> Work for LeafWork<'a> {
                 )
             }
             Err(chain) => Turn::Back(LeafJob {
-                page: Page::late_leaf(low, chain),
+                page: Page::lazy_leaf(low, chain),
                 page_run,
             }),
         }
@@ -186,9 +186,9 @@ impl<'a> Work for LeafWork<'a> {
 fn boxed(alloc: Global, done: KeptDone) -> Turn<LeafJob, LeafDone>
     requires { IsWorkedLeaf done.page done.way_back }
     ensures done { IfDone result
-        (λ boxed. boxed ≡ leaf_worked done.page done.way_back done.page_run done.pieces) }
+        (λ boxed. boxed ≡ leaf_updated done.page done.way_back done.page_run done.pieces) }
     ensures back { IfBack result (λ again. leaf_held_of again
-        ≡ (leaf_worked done.page done.way_back done.page_run done.pieces).held) }
+        ≡ (leaf_updated done.page done.way_back done.page_run done.pieces).held) }
 {
     match Box::new(alloc, done) {
         Ok(kept) => Turn::Done(LeafDone { kept }),
@@ -200,7 +200,7 @@ fn boxed(alloc: Global, done: KeptDone) -> Turn<LeafJob, LeafDone>
 fn job_of(alloc: Global, done: KeptDone) -> LeafJob
     requires { IsWorkedLeaf done.page done.way_back }
     ensures { leaf_held_of result
-        ≡ (leaf_worked done.page done.way_back done.page_run done.pieces).held }
+        ≡ (leaf_updated done.page done.way_back done.page_run done.pieces).held }
 {
     let KeptDone {
         page,
@@ -211,7 +211,7 @@ fn job_of(alloc: Global, done: KeptDone) -> LeafJob
     let (low, chain) = page.into_leaf();
     let chain = way_back.undo(alloc, chain);
     LeafJob {
-        page: Page::late_leaf(low, chain),
+        page: Page::lazy_leaf(low, chain),
         page_run,
     }
 }

@@ -2,7 +2,7 @@
 ghost use Rattle.std.specs.Prelude.{◌≡◌, slice_get};
 ghost use Rattle.std.specs.List.{list_all};
 ghost use Rattle.std.specs.Option.{option_to_list};
-ghost use Rattle.page_runs.specs.Reads.{is_look, is_only_read};
+ghost use Rattle.page_runs.specs.Reads.{is_read_only, is_only_read};
 ghost use Rattle.page_runs.specs.Replies.{commands_at};
 
 use crate::replay::replay;
@@ -101,15 +101,15 @@ impl<'a> Work for ReadWork<'a> {
 pub fn is_only_read(commands: &[Command<Global>], page_run: &PageRun) -> bool
     ensures { result ≡ is_only_read commands.now page_run.now }
 {
-    do_all_look(commands, page_run.places())
+    are_all_read_only(commands, page_run.places())
 }
 
 // Whether all commands at these places only read.
-fn do_all_look(commands: &[Command<Global>], places: &[usize]) -> bool
-    ensures { result ≡ list_all is_look (commands_at commands.now places.now) }
+fn are_all_read_only(commands: &[Command<Global>], places: &[usize]) -> bool
+    ensures { result ≡ list_all is_read_only (commands_at commands.now places.now) }
 {
     for place in places {
-        if !is_look_at(commands, *place) {
+        if !is_read_only_at(commands, *place) {
             return false;
         }
     }
@@ -117,8 +117,8 @@ fn do_all_look(commands: &[Command<Global>], places: &[usize]) -> bool
 }
 
 // Whether the command at this place, if there is one, only reads.
-fn is_look_at(commands: &[Command<Global>], place: usize) -> bool
-    ensures { result ≡ list_all is_look (option_to_list (slice_get commands.now place)) }
+fn is_read_only_at(commands: &[Command<Global>], place: usize) -> bool
+    ensures { result ≡ list_all is_read_only (option_to_list (slice_get commands.now place)) }
 {
     match commands.get(place) {
         Some(Command::Get(_) | Command::Scan(_, _, _)) => true,

@@ -43,11 +43,11 @@ pub struct TermDone {
 }
 
 impl Model for TermDone {
-    ghost use Rattle.page_runs.specs.TermWork.{IndexWorked, index_worked, IsWorkedIndex};
+    ghost use Rattle.page_runs.specs.TermWork.{IndexUpdate, index_updated, IsWorkedIndex};
 
-    ghost Value = { IndexWorked };
+    ghost Value = { IndexUpdate };
 
-    ghost view = { λ d. index_worked d.page d.way_back d.pid };
+    ghost view = { λ d. index_updated d.page d.way_back d.pid };
 
     ghost invariant = { λ d. IsWorkedIndex d.page d.way_back d.list_before };
 }
@@ -93,7 +93,7 @@ impl TermDone {
 impl Work for TermWork {
     ghost use Rattle.index_page.specs.Page.{IsIndex};
     ghost use Rattle.page_runs.specs.TermWork.{TermHeld, index_made, term_held_of};
-    ghost use Rattle.page_runs.specs.Worked.{Worked};
+    ghost use Rattle.page_runs.specs.Updated.{Updated};
     ghost use Rattle.std.specs.Prelude.{ℕ};
 
     type Job = TermJob;
@@ -102,7 +102,7 @@ impl Work for TermWork {
 
     ghost Held = { TermHeld };
 
-    ghost Made = { Worked ℕ };
+    ghost Made = { Updated ℕ };
 
     ghost accepts = { λ w h. IsIndex h.page };
 

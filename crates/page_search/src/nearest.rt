@@ -138,7 +138,7 @@ fn nearest_place<L: KeyList>(list: &L, key: &[u8], side: Side, probes: &mut Prob
     ensures kept { probes.old ≤ probes.new }
 {
     let count = list.len();
-    let cut = parting(list, key, side, probes);
+    let cut = partition_place(list, key, side, probes);
     match side {
         Side::Above if cut < count => Some(cut),
         Side::Above => None,
@@ -148,7 +148,7 @@ fn nearest_place<L: KeyList>(list: &L, key: &[u8], side: Side, probes: &mut Prob
 
 // The place that separates the keys on this side from the others: the first key above `key`, or for `Below`, the first
 // key not below it.
-fn parting<L: KeyList>(list: &L, key: &[u8], side: Side, probes: &mut Probes) -> usize
+fn partition_place<L: KeyList>(list: &L, key: &[u8], side: Side, probes: &mut Probes) -> usize
     ensures place { Parts side key.now (L.keys list.now) result }
     ensures cost { probes.new ≤ probes.old + binary_digits (length (L.keys list.now)) }
     ensures least { min (probes.old

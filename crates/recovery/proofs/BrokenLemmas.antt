@@ -8,15 +8,15 @@ use Rattle.recovery.specs.PageByLog.InLog.{Missing, Broken}
 
 pub broken-stays : (cs : List Content) → fold continued Broken cs ≡ Broken
 broken-stays [] = refl
-broken-stays (FullLeaf spelling low base ∷ cs) = broken-stays cs
+broken-stays (FullLeaf encoding low base ∷ cs) = broken-stays cs
 broken-stays (DeltaLeaf run ∷ cs) = broken-stays cs
-broken-stays (FullIndex spelling low base ∷ cs) = broken-stays cs
+broken-stays (FullIndex encoding low base ∷ cs) = broken-stays cs
 broken-stays (DeltaIndex run ∷ cs) = broken-stays cs
 broken-stays (Free ∷ cs) = broken-stays cs
 
 pub missing-breaks : (c : Content) → continued Missing c ≡ Broken
-missing-breaks (FullLeaf spelling low base) = refl
+missing-breaks (FullLeaf encoding low base) = refl
 missing-breaks (DeltaLeaf run) = refl
-missing-breaks (FullIndex spelling low base) = refl
+missing-breaks (FullIndex encoding low base) = refl
 missing-breaks (DeltaIndex run) = refl
 missing-breaks Free = refl

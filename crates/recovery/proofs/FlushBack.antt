@@ -12,13 +12,13 @@ use Rattle.mapping.specs.Tree.{Tree, Store}
 use Rattle.frame_codec.specs.Frame.{Frame}
 use Rattle.flush_log.specs.AfterFlush.{slot_of, flush_slot, is_spent, store_after, after_commit, after_text, unless_upgraded}
 use Rattle.flush_log.specs.Commit.{HasRoom, committed}
-use Rattle.flush_log.specs.FlushText.{version_with, text_of, format_with, HasFrames, flushed}
+use Rattle.flush_log.specs.FlushText.{version_with, commit_frames, format_with, HasFrames, flushed}
 use Rattle.flush_log.specs.Layout.{found_in_text, spans, is_full_for_flush}
 use Rattle.flush_log.specs.Reading.{Found, log_between}
 use Rattle.flush_log.specs.Segments.{last_segment}
 use Rattle.flush_log.specs.Slot.{Slot, greatest, is_slot}
-use Rattle.flush_log.specs.declared.text.Text.{Text}
-use Rattle.flush_log.specs.declared.text.Text.TheVariants.{Upgrade}
+use Rattle.flush_log.specs.declared.text.CommitKind.{CommitKind}
+use Rattle.flush_log.specs.declared.text.CommitKind.TheVariants.{Upgrade}
 use Rattle.flush_log.proofs.FitLemmas.{are_sized}
 use Rattle.flush_log.proofs.LayoutLemmas.{split-tail}
 use Rattle.flush_log.proofs.NextSlotLemmas.{next_good}
@@ -95,7 +95,7 @@ module _ (st on_disk : Store) (tree : Tree) (slot : Slot) (step : AreInStep st o
   same_store = ap (λ (v : Version). store_after st.tree (slot_with v slot)) (sym same_version) ∙ same_with st.version
 
 -- the contents of a log of this version are the same when read as a log after this commit
-abbrev pub IsReadBy : Version → Text → Type 0
+abbrev pub IsReadBy : Version → CommitKind → Type 0
 IsReadBy version text = (s : Settings) (file : List ℕ) (head tail : ℕ) (found : List Found) → log_between (record { settings = s; version = version }) file head tail ≡ Ok found
     → log_between (format_with s text) file head tail ≡ Ok found
 
@@ -107,12 +107,12 @@ read-upgraded Two s file head tail found h = h
 -- ---- reading afterwards
 
 -- the store with this tree and this slot, for this kind of commit
-abbrev pub started : Text → Tree → Slot → Store
+abbrev pub started : CommitKind → Tree → Slot → Store
 started text tree slot = store_after tree (slot_with (version_with text) slot)
 
-module _ (s : Settings) (text : Text) (tree : Tree) (slot : Slot) (within : HasFrames s text tree) where
+module _ (s : Settings) (text : CommitKind) (tree : Tree) (slot : Slot) (within : HasFrames s text tree) where
   abbrev frames : List Frame
-  frames = text_of text tree
+  frames = commit_frames text tree
 
   -- the slot of its commit
   abbrev next : Slot
@@ -156,7 +156,7 @@ module _ (s : Settings) (text : Text) (tree : Tree) (slot : Slot) (within : HasF
 -- ---- the laws
 
 -- the slot of a commit is well formed
-pub next-good_of : (s : Settings) (text : Text) (st : Store) → IsStore s st → HasFrames s text st.tree → (let t : Slot = flush_slot s st (text_of text st.tree) in
+pub next-good_of : (s : Settings) (text : CommitKind) (st : Store) → IsStore s st → HasFrames s text st.tree → (let t : Slot = flush_slot s st (commit_frames text st.tree) in
     t.sequence ≤ greatest → t.tail ≤ greatest → is_full_for_flush s t.head t.tail ≡ false → is_slot s t.sequence t ≡ true)
 next-good_of s text st is within number small free =
     let was : IsSlot s st.sequence (slot_of st) = slot-is s st.sequence (slot_of st) is.slot in
@@ -166,23 +166,23 @@ next-good_of s text st is within number small free =
 pub kept-with : (s : Settings) (version : Version) (st : Store) → IsStore s st → IsStore s (store_with version st)
 kept-with s version st is = record { good = is.good; proper = is.proper; logs = is.logs; slot = is.slot }
 
-module _ (s : Settings) (text : Text) (file : List ℕ) (tree : Tree) (on_disk : Store) (by : StandsBy s file on_disk) (is : IsStore s (store_after tree by.slot)) (within : HasFrames s text tree) where
+module _ (s : Settings) (text : CommitKind) (file : List ℕ) (tree : Tree) (on_disk : Store) (by : StandsBy s file on_disk) (is : IsStore s (store_after tree by.slot)) (within : HasFrames s text tree) where
   abbrev before : Store
   before = started text tree by.slot
 
   abbrev written_store : Store
-  written_store = store_after (flushed tree) (flush_slot s before (text_of text tree))
+  written_store = store_after (flushed tree) (flush_slot s before (commit_frames text tree))
 
-  stands : AreInStep (store_after tree by.slot) on_disk → (bytes : List ℕ) → Reads s bytes (flush_slot s before (text_of text tree)) (by.found ++ found_in_text s by.slot.tail (text_of text tree)) → store_of_disk bytes ≡ Ok (s, written_store)
+  stands : AreInStep (store_after tree by.slot) on_disk → (bytes : List ℕ) → Reads s bytes (flush_slot s before (commit_frames text tree)) (by.found ++ found_in_text s by.slot.tail (commit_frames text tree)) → store_of_disk bytes ≡ Ok (s, written_store)
   stands step bytes reads = text-read s text before bytes by.found is.proper (known-frames s (store_after tree by.slot) on_disk file is.proper is.logs by step) reads
 
   -- a commit that has frames
-  back : text_of text tree ≢ [] → IsReadBy by.slot.version text → AreInStep (store_after tree by.slot) on_disk → (now : Store) (bytes : List ℕ) → after_text s before file (text_of text tree) ≡ left now bytes → store_of_disk bytes ≡ Ok (s, now)
+  back : commit_frames text tree ≢ [] → IsReadBy by.slot.version text → AreInStep (store_after tree by.slot) on_disk → (now : Store) (bytes : List ℕ) → after_text s before file (commit_frames text tree) ≡ left now bytes → store_of_disk bytes ≡ Ok (s, now)
   back some read_by step now bytes h =
-      let t : Slot = flush_slot s before (text_of text tree) in
+      let t : Slot = flush_slot s before (commit_frames text tree) in
       let full : Bool = is_full_for_flush s t.head t.tail in
-      let file' : List ℕ = committed s file (spans s by.slot.tail (text_of text tree)) t in
-      let done = commit-done t full written_store now file' bytes (sym (text-some s before file (text_of text tree) some) ∙ h) in
+      let file' : List ℕ = committed s file (spans s by.slot.tail (commit_frames text tree)) t in
+      let done = commit-done t full written_store now file' bytes (sym (text-some s before file (commit_frames text tree) some) ∙ h) in
       let good = next-good_of s text before (kept-with s (version_with text) (store_after tree by.slot) is) within done.number done.tail done.room in
       let reads = text-reads s text tree by.slot within file by.found by.reads read_by good done.room in
       subst (λ (x : Store). store_of_disk bytes ≡ answer x) (sym done.store) (subst (λ (x : List ℕ). store_of_disk x ≡ answer written_store) (sym done.disk) (stands step file' reads))
@@ -191,8 +191,8 @@ module _ (s : Settings) (text : Text) (file : List ℕ) (tree : Tree) (on_disk :
       answer x = Ok (s, x)
 
 -- the commit is read back
-pub text-back : (s : Settings) (text : Text) (st : Store) (file : List ℕ) → IsStoreOf s st file → HasFrames s text st.tree → IsReadBy st.version text → text_of text st.tree ≢ [] → (now : Store) (bytes : List ℕ)
-    → after_text s (store_with (version_with text) st) file (text_of text st.tree) ≡ left now bytes → store_of_disk bytes ≡ Ok (s, now)
+pub text-back : (s : Settings) (text : CommitKind) (st : Store) (file : List ℕ) → IsStoreOf s st file → HasFrames s text st.tree → IsReadBy st.version text → commit_frames text st.tree ≢ [] → (now : Store) (bytes : List ℕ)
+    → after_text s (store_with (version_with text) st) file (commit_frames text st.tree) ≡ left now bytes → store_of_disk bytes ≡ Ok (s, now)
 text-back s text st file is within read_by some now bytes h =
     let (on_disk, read, step) = is.step in
     let by : StandsBy s file on_disk = store-stands s file on_disk read in
@@ -202,4 +202,4 @@ text-back s text st file is within read_by some now bytes h =
     back s text file st.tree on_disk by (subst (λ (x : Store). IsStore s x) (sym same) is.is) within some
     (subst (λ (v : Version). IsReadBy v text) (same_version st on_disk (tree_by_log slot (frames_in by.found)) slot step on_disk_is) read_by)
     (subst (λ (x : Store). AreInStep x on_disk) (sym same) step) now bytes
-    (ap (λ (x : Store). after_text s x file (text_of text st.tree)) (same_with st on_disk (tree_by_log slot (frames_in by.found)) slot step on_disk_is (version_with text)) ∙ h)
+    (ap (λ (x : Store). after_text s x file (commit_frames text st.tree)) (same_with st on_disk (tree_by_log slot (frames_in by.found)) slot step on_disk_is (version_with text)) ∙ h)

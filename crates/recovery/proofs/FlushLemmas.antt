@@ -9,11 +9,11 @@ use Rattle.mapping.specs.Tree.{Tree, Store}
 use Rattle.mapping.proofs.Walk.{nothing_found}
 use Rattle.frame_codec.specs.Frame.{Frame, bytes_of}
 use Rattle.flush_log.specs.AfterFlush.{flush_slot, store_after}
-use Rattle.flush_log.specs.FlushText.{text_of, tree_in_log, flushed}
+use Rattle.flush_log.specs.FlushText.{commit_frames, tree_in_log, flushed}
 use Rattle.flush_log.specs.Layout.{PlacedFrame, placed_from, placed, found_in_text}
 use Rattle.flush_log.specs.Reading.{Found}
 use Rattle.flush_log.specs.Slot.{Slot}
-use Rattle.flush_log.specs.declared.text.Text.{Text}
+use Rattle.flush_log.specs.declared.text.CommitKind.{CommitKind}
 use Rattle.recovery.specs.InStep.{AreInStep}
 use Rattle.recovery.specs.LogPages.{pages_of, broken_in}
 use Rattle.recovery.specs.StoreOfDisk.{frames_in, tree_by_log, store_of_disk}
@@ -68,11 +68,11 @@ known-frames s st on_disk file proper logs by step =
     }
 
 -- a disk whose log has the new frames after the old ones, and whose slot is that of the commit
-pub text-read : (s : Settings) (text : Text) (st : Store) (bytes : List ℕ) (found : List Found) → IsProper s st.tree → IsKnown st.tree (frames_in found)
-    → (let frames : List Frame = text_of text st.tree in let t : Slot = flush_slot s st frames in
+pub text-read : (s : Settings) (text : CommitKind) (st : Store) (bytes : List ℕ) (found : List Found) → IsProper s st.tree → IsKnown st.tree (frames_in found)
+    → (let frames : List Frame = commit_frames text st.tree in let t : Slot = flush_slot s st frames in
     Reads s bytes t (found ++ found_in_text s st.tail frames) → store_of_disk bytes ≡ Ok (s, store_after (flushed st.tree) t))
 text-read s text st bytes found proper known reads =
-    let frames : List Frame = text_of text st.tree in
+    let frames : List Frame = commit_frames text st.tree in
     let t : Slot = flush_slot s st frames in
     let all : List Found = found ++ found_in_text s st.tail frames in
     let alone : frames_in all ≡ frames_in found ++ frames = frames-text s st.tail found frames in

@@ -17,7 +17,7 @@ use Rattle.frame_codec.specs.Skimmed.{kind_of}
 use Rattle.frame_codec.specs.declared.skim.FrameKind.{FrameKind}
 use Rattle.frame_codec.specs.declared.skim.FrameKind.TheVariants as kinds
 use Rattle.flush_log.specs.Reading.{Found}
-use Rattle.recovery.specs.Gathered.{live_frames, contents_in, is_wanted_in, wanted_of, spelled, live_size, IsStateOf, IsKept, with_leaf_run, with_index_run, state_after, segment_after, run_size, size_after, with_base, with_run, kept_with, IsKeptOf, AreKept, first_segment}
+use Rattle.recovery.specs.Gathered.{live_frames, contents_in, is_wanted_in, wanted_of, encoded, live_size, IsStateOf, IsKept, with_leaf_run, with_index_run, state_after, segment_after, run_size, size_after, with_base, with_run, kept_with, IsKeptOf, AreKept, first_segment}
 use Rattle.recovery.specs.LogPages.{contents_of}
 use Rattle.recovery.specs.PageByLog.{is_base, is_start, from_last, InLog, with_newer_run, begun_page, continued, page_from_start}
 use Rattle.recovery.specs.PageByLog.InLog.{Missing, Present, Broken}
@@ -130,9 +130,9 @@ index_run state.Free cs run h = ap (λ (ds : List Content). page_from_start (aft
 index_run state.Unfit cs run h = continued_after cs (DeltaIndex run) Broken h (λ e. absurd (cc))
 
 state-more : (t : PageState) (cs : List Content) (c : Content) → IsStateOf t cs → IsStateOf (state_after t (kind_of c)) (cond (is_start c) (c ∷ []) (after_some cs c))
-state-more t cs (FullLeaf spelling low base) h = (bare low base, refl)
+state-more t cs (FullLeaf encoding low base) h = (bare low base, refl)
 state-more t cs (DeltaLeaf run) h = leaf_run t cs run h
-state-more t cs (FullIndex spelling low base) h = (bare low base, refl)
+state-more t cs (FullIndex encoding low base) h = (bare low base, refl)
 state-more t cs (DeltaIndex run) h = index_run t cs run h
 state-more t cs Free h = refl
 
@@ -151,9 +151,9 @@ run_segment [] f = refl
 run_segment (g ∷ gs) f = refl
 
 segment-more : (c : Content) (n pid : ℕ) (fs : List Found) → segment_after (first_segment fs) (kind_of c) n ≡ first_segment (part_with fs (record { segment = n; frame = record { pid = pid; content = c } }))
-segment-more (FullLeaf spelling low base) n pid fs = refl
+segment-more (FullLeaf encoding low base) n pid fs = refl
 segment-more (DeltaLeaf run) n pid fs = run_segment fs (record { segment = n; frame = record { pid = pid; content = DeltaLeaf run } })
-segment-more (FullIndex spelling low base) n pid fs = refl
+segment-more (FullIndex encoding low base) n pid fs = refl
 segment-more (DeltaIndex run) n pid fs = run_segment fs (record { segment = n; frame = record { pid = pid; content = DeltaIndex run } })
 segment-more Free n pid fs = refl
 
@@ -167,39 +167,39 @@ run_some : (xs frame : List ℕ) → 1 ≤ length xs → with_run xs frame ≡ x
 run_some [] frame h = absurd (omega (arith, h))
 run_some (x ∷ xs) frame h = refl
 
-pub spelled-append : (fs gs : List Frame) → spelled (fs ++ gs) ≡ spelled fs ++ spelled gs
-spelled-append [] gs = refl
-spelled-append (f ∷ fs) gs = ap (λ (bs : List ℕ). bytes_of f ++ bs) (spelled-append fs gs) ∙ sym (append_assoc (bytes_of f) (spelled fs) (spelled gs))
+pub encoded-append : (fs gs : List Frame) → encoded (fs ++ gs) ≡ encoded fs ++ encoded gs
+encoded-append [] gs = refl
+encoded-append (f ∷ fs) gs = ap (λ (bs : List ℕ). bytes_of f ++ bs) (encoded-append fs gs) ∙ sym (append_assoc (bytes_of f) (encoded fs) (encoded gs))
 
-base_kept : (b : Bool) (f : Frame) → with_base b (bytes_of f) ≡ spelled (cond (b && true) (f ∷ []) [])
+base_kept : (b : Bool) (f : Frame) → with_base b (bytes_of f) ≡ encoded (cond (b && true) (f ∷ []) [])
 base_kept true f = sym (append-nil (bytes_of f))
 base_kept false f = refl
 
-free_kept : (b : Bool) (f : Frame) → [] ≡ spelled (cond (b && false) (f ∷ []) [])
+free_kept : (b : Bool) (f : Frame) → [] ≡ encoded (cond (b && false) (f ∷ []) [])
 free_kept true f = refl
 free_kept false f = refl
 
-follows_by : (b : Bool) (g f : Found) (gs : List Found) (bytes : List ℕ) → bytes ≡ spelled (cond b (frames_in (g ∷ gs)) []) → with_run bytes (bytes_of f.frame) ≡ spelled (cond b (frames_in (g ∷ (gs ++ f ∷ []))) [])
+follows_by : (b : Bool) (g f : Found) (gs : List Found) (bytes : List ℕ) → bytes ≡ encoded (cond b (frames_in (g ∷ gs)) []) → with_run bytes (bytes_of f.frame) ≡ encoded (cond b (frames_in (g ∷ (gs ++ f ∷ []))) [])
 follows_by true g f gs bytes e =
     let some = some_bytes g.frame in
-    let long = length-append (bytes_of g.frame) (spelled (frames_in gs)) in
+    let long = length-append (bytes_of g.frame) (encoded (frames_in gs)) in
     ap (λ (bs : List ℕ). with_run bs (bytes_of f.frame)) e
-    ∙ run_some (spelled (frames_in (g ∷ gs))) (bytes_of f.frame) (omega (arith, some, long))
-    ∙ ap (λ (bs : List ℕ). spelled (frames_in (g ∷ gs)) ++ bs) (sym (append-nil (bytes_of f.frame)))
-    ∙ sym (spelled-append (frames_in (g ∷ gs)) (f.frame ∷ []))
-    ∙ ap (λ (fs : List Frame). spelled (g.frame ∷ fs)) (sym (map-append (λ (h : Found). h.frame) gs (f ∷ [])))
+    ∙ run_some (encoded (frames_in (g ∷ gs))) (bytes_of f.frame) (omega (arith, some, long))
+    ∙ ap (λ (bs : List ℕ). encoded (frames_in (g ∷ gs)) ++ bs) (sym (append-nil (bytes_of f.frame)))
+    ∙ sym (encoded-append (frames_in (g ∷ gs)) (f.frame ∷ []))
+    ∙ ap (λ (fs : List Frame). encoded (g.frame ∷ fs)) (sym (map-append (λ (h : Found). h.frame) gs (f ∷ [])))
 follows_by false g f gs bytes e = ap (λ (bs : List ℕ). with_run bs (bytes_of f.frame)) e
 
 module _ (w : Wanted) where
-  run_kept : (fs : List Found) (f : Found) (bytes : List ℕ) → bytes ≡ spelled (wanted_of w fs) → with_run bytes (bytes_of f.frame) ≡ spelled (wanted_of w (after_some fs f))
+  run_kept : (fs : List Found) (f : Found) (bytes : List ℕ) → bytes ≡ encoded (wanted_of w fs) → with_run bytes (bytes_of f.frame) ≡ encoded (wanted_of w (after_some fs f))
   run_kept [] f bytes e = ap (λ (bs : List ℕ). with_run bs (bytes_of f.frame)) e
   run_kept (g ∷ gs) f bytes e = follows_by (is_wanted_in w g.segment && is_base g.frame.content) g f gs bytes e
 
-  kept_as : (c : Content) (n pid : ℕ) (fs : List Found) (bytes : List ℕ) → bytes ≡ spelled (wanted_of w fs)
-      → (let f : Found = record { segment = n; frame = record { pid = pid; content = c } } in kept_with bytes (kind_of c) (is_wanted_in w n) (bytes_of f.frame) ≡ spelled (wanted_of w (part_with fs f)))
-  kept_as (FullLeaf spelling low base) n pid fs bytes e = base_kept (is_wanted_in w n) (record { pid = pid; content = FullLeaf spelling low base })
+  kept_as : (c : Content) (n pid : ℕ) (fs : List Found) (bytes : List ℕ) → bytes ≡ encoded (wanted_of w fs)
+      → (let f : Found = record { segment = n; frame = record { pid = pid; content = c } } in kept_with bytes (kind_of c) (is_wanted_in w n) (bytes_of f.frame) ≡ encoded (wanted_of w (part_with fs f)))
+  kept_as (FullLeaf encoding low base) n pid fs bytes e = base_kept (is_wanted_in w n) (record { pid = pid; content = FullLeaf encoding low base })
   kept_as (DeltaLeaf run) n pid fs bytes e = run_kept fs (record { segment = n; frame = record { pid = pid; content = DeltaLeaf run } }) bytes e
-  kept_as (FullIndex spelling low base) n pid fs bytes e = base_kept (is_wanted_in w n) (record { pid = pid; content = FullIndex spelling low base })
+  kept_as (FullIndex encoding low base) n pid fs bytes e = base_kept (is_wanted_in w n) (record { pid = pid; content = FullIndex encoding low base })
   kept_as (DeltaIndex run) n pid fs bytes e = run_kept fs (record { segment = n; frame = record { pid = pid; content = DeltaIndex run } }) bytes e
   kept_as Free n pid fs bytes e = free_kept (is_wanted_in w n) (record { pid = pid; content = Free })
 
@@ -226,7 +226,7 @@ sized kinds.Free bytes frame n e = refl
 
 size-more : (fs : List Found) (f : Found) (n : ℕ) → n ≡ live_size fs → size_after n (kind_of f.frame.content) (length (bytes_of f.frame)) ≡ live_size (part_with fs f)
 size-more fs f n e =
-    let bytes = spelled (wanted_of Every fs) in
+    let bytes = encoded (wanted_of Every fs) in
     sized (kind_of f.frame.content) bytes (bytes_of f.frame) n e ∙ ap as_size (kept_as Every f.frame.content f.segment f.frame.pid fs bytes refl)
 
 -- ---- what is retained of a page
@@ -252,7 +252,7 @@ module _ (w : Wanted) where
     state = subst (λ (u : PageState). IsStateOf u (contents_in fs)) (sym t) (ap contents_in none);
     segment = s ∙ ap first_segment (sym none);
     size = z ∙ ap live_size (sym none);
-    frames = i ∙ ap (λ (gs : List Found). spelled (wanted_of w gs)) (sym none);
+    frames = i ∙ ap (λ (gs : List Found). encoded (wanted_of w gs)) (sym none);
   }
 
   -- what came out of the map, or nothing

@@ -18,7 +18,7 @@ use Rattle.frame_codec.specs.Frame.{Content, Frame, bytes_of, is_frame}
 use Rattle.frame_codec.specs.Frame.Content.{FullLeaf, DeltaLeaf, FullIndex, DeltaIndex, Free}
 use Rattle.frame_codec.proofs.FrameLemmas.{in_limits, frame-back}
 use Rattle.flush_log.specs.Reading.{Found, is_at_tail, with_first, read_frames}
-use Rattle.recovery.specs.Gathered.{live_frames, contents_in, wanted_of, spelled, IsStateOf, IsKept, IsKeptOf, AreKept, AreLive, is_unfit, first_unfit}
+use Rattle.recovery.specs.Gathered.{live_frames, contents_in, wanted_of, encoded, IsStateOf, IsKept, IsKeptOf, AreKept, AreLive, is_unfit, first_unfit}
 use Rattle.recovery.specs.LogPages.{in_log, pids_of, broken_under, broken_in}
 use Rattle.recovery.specs.PageByLog.{is_base, is_start, from_last, continued, page_from_start, page_in, is_broken}
 use Rattle.recovery.specs.PageByLog.InLog.{Missing}
@@ -133,22 +133,22 @@ abbrev all_read : List Frame → Result (List Frame) ℕ
 all_read fs = Ok fs
 
 module _ (s : Format) (good : first_bad_field s.settings ≡ None) where
-  frames_back : (fs : List Frame) → AllByRecursion (λ f. is_frame s f ≡ true) fs → (most : ℕ) → length (spelled fs) ≤ most → read_frames s is_at_tail most (spelled fs) ≡ all_read fs
+  frames_back : (fs : List Frame) → AllByRecursion (λ f. is_frame s f ≡ true) fs → (most : ℕ) → length (encoded fs) ≤ most → read_frames s is_at_tail most (encoded fs) ≡ all_read fs
   frames_back [] a zero h = refl
   frames_back [] a (suc most) h = refl
   frames_back (f ∷ fs) a zero h =
       let some = some_bytes f in
-      let long = length-append (bytes_of f) (spelled fs) in
+      let long = length-append (bytes_of f) (encoded fs) in
       absurd (omega (arith, some, long, h))
   frames_back (f ∷ fs) a (suc most) h =
       let some = some_bytes f in
-      let long = length-append (bytes_of f) (spelled fs) in
-      goes_on s is_at_tail most (spelled (f ∷ fs)) (spelled fs) f refl (frame-back s (in_limits s.settings good) f a.0 (spelled fs))
+      let long = length-append (bytes_of f) (encoded fs) in
+      goes_on s is_at_tail most (encoded (f ∷ fs)) (encoded fs) f refl (frame-back s (in_limits s.settings good) f a.0 (encoded fs))
       ∙ ap (λ (r : Result (List Frame) ℕ). with_first f r) (frames_back fs a.1 most (omega (arith, some, long, h)))
 
   -- they are read again
-  pub bytes-frames : (fs : List Frame) → AllByRecursion (λ f. is_frame s f ≡ true) fs → frames_of_bytes s (spelled fs) ≡ fs
-  bytes-frames fs a = ap all_or_none (frames_back fs a (length (spelled fs)) (omega arith))
+  pub bytes-frames : (fs : List Frame) → AllByRecursion (λ f. is_frame s f ≡ true) fs → frames_of_bytes s (encoded fs) ≡ fs
+  bytes-frames fs a = ap all_or_none (frames_back fs a (length (encoded fs)) (omega arith))
 
 module _ (s : Format) where
   pub live_frames-within : (pid : ℕ) (found : List Found) → AllByRecursion (λ f. is_frame s f.frame ≡ true) found → AllByRecursion (λ f. is_frame s f.frame ≡ true) (live_frames pid found)
@@ -178,9 +178,9 @@ missing_none (c ∷ cs) = ap page_in (ap (λ t. fold continued t cs) (missing-br
 
 -- after a content that is no base there is no page
 pub none-page : (c : Content) (cs : List Content) → is_base c ≡ false → page_in (page_from_start (c ∷ cs)) ≡ None
-none-page (FullLeaf spelling low base) cs e = absurd (cc)
+none-page (FullLeaf encoding low base) cs e = absurd (cc)
 none-page (DeltaLeaf run) cs e = missing_none cs
-none-page (FullIndex spelling low base) cs e = absurd (cc)
+none-page (FullIndex encoding low base) cs e = absurd (cc)
 none-page (DeltaIndex run) cs e = missing_none cs
 none-page Free cs e = missing_none cs
 

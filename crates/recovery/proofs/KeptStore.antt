@@ -8,11 +8,11 @@ use Rattle.mapping.specs.Tree.{Tree, Store, with_tree}
 use Rattle.frame_codec.specs.Frame.{Frame}
 use Rattle.flush_log.specs.AfterFlush.{slot_of, store_after, flush_slot, after_text, after_flush, after_upgrade, of_version_two}
 use Rattle.flush_log.specs.Commit.{committed}
-use Rattle.flush_log.specs.FlushText.{text_of, flush_text, upgrade_text, HasFrames, flushed}
+use Rattle.flush_log.specs.FlushText.{commit_frames, flush_frames, upgrade_frames, HasFrames, flushed}
 use Rattle.flush_log.specs.Layout.{spans, is_full_for_flush}
 use Rattle.flush_log.specs.Slot.{Slot}
-use Rattle.flush_log.specs.declared.text.Text.{Text}
-use Rattle.flush_log.specs.declared.text.Text.TheVariants.{Flush, Upgrade}
+use Rattle.flush_log.specs.declared.text.CommitKind.{CommitKind}
+use Rattle.flush_log.specs.declared.text.CommitKind.TheVariants.{Flush, Upgrade}
 use Rattle.flush_log.proofs.SlotLemmas.{IsSlot, slot-is, is-slot}
 use Rattle.flush_log.proofs.UpgradeLemmas.{upgrade-some}
 use Rattle.recovery.specs.InStep.{KeepsLogged, IsStore, IsStoreOf}
@@ -26,12 +26,12 @@ use Rattle.recovery.proofs.StepLemmas.{kept-in_step}
 -- ---- a commit
 
 -- the result of this commit for a store: unchanged, if there was nothing to write; else the committed store
-data IsWritten (s : Settings) (text : Text) (st now : Store) (file bytes : List ℕ) : Type 0 where
-  Nothing : text_of text st.tree ≡ [] → now ≡ st → IsWritten s text st now file bytes
-  Something : (let t : Slot = flush_slot s st (text_of text st.tree) in
-      IsCommitted t (is_full_for_flush s t.head t.tail) (store_after (flushed st.tree) t) (committed s file (spans s st.tail (text_of text st.tree)) t) now bytes) → IsWritten s text st now file bytes
+data IsWritten (s : Settings) (text : CommitKind) (st now : Store) (file bytes : List ℕ) : Type 0 where
+  Nothing : commit_frames text st.tree ≡ [] → now ≡ st → IsWritten s text st now file bytes
+  Something : (let t : Slot = flush_slot s st (commit_frames text st.tree) in
+      IsCommitted t (is_full_for_flush s t.head t.tail) (store_after (flushed st.tree) t) (committed s file (spans s st.tail (commit_frames text st.tree)) t) now bytes) → IsWritten s text st now file bytes
 
-is_written : (s : Settings) (text : Text) (st now : Store) (file bytes : List ℕ) (frames : List Frame) → text_of text st.tree ≡ frames → after_text s st file frames ≡ left now bytes → IsWritten s text st now file bytes
+is_written : (s : Settings) (text : CommitKind) (st now : Store) (file bytes : List ℕ) (frames : List Frame) → commit_frames text st.tree ≡ frames → after_text s st file frames ≡ left now bytes → IsWritten s text st now file bytes
 is_written s text st now file bytes [] none h =
     let same : (let p : Store × List ℕ = (now, bytes) in p ≡ (st, file)) = cc in
     Nothing none (ap (λ (p : Store × List ℕ). p.0) same)
@@ -43,10 +43,10 @@ is_written s text st now file bytes (f ∷ fs) some h =
     Done : List Frame → Type 0
     Done frames = (let t : Slot = flush_slot s st frames in IsCommitted t (is_full_for_flush s t.head t.tail) (store_after (flushed st.tree) t) (committed s file (spans s st.tail frames) t) now bytes)
 
-module _ (s : Settings) (text : Text) (st now : Store) (file bytes : List ℕ) (h : after_text s st file (text_of text st.tree) ≡ left now bytes) where
+module _ (s : Settings) (text : CommitKind) (st now : Store) (file bytes : List ℕ) (h : after_text s st file (commit_frames text st.tree) ≡ left now bytes) where
   -- the tree is the one that the disk then has
-  text-tree : (text_of text st.tree ≡ [] → flushed st.tree ≡ st.tree) → now.tree ≡ flushed st.tree
-  text-tree as_it_was = of (is_written s text st now file bytes (text_of text st.tree) refl h)
+  text-tree : (commit_frames text st.tree ≡ [] → flushed st.tree ≡ st.tree) → now.tree ≡ flushed st.tree
+  text-tree as_it_was = of (is_written s text st now file bytes (commit_frames text st.tree) refl h)
     where
       of : IsWritten s text st now file bytes → now.tree ≡ flushed st.tree
       of (Nothing none same) = ap (λ (x : Store). x.tree) same ∙ sym (as_it_was none)
@@ -54,7 +54,7 @@ module _ (s : Settings) (text : Text) (st now : Store) (file bytes : List ℕ) (
 
   -- the store stays one as every store is, whatever its disk does
   text-kept : IsStore s st → HasFrames s text st.tree → IsStore s now
-  text-kept is within = of (is_written s text st now file bytes (text_of text st.tree) refl h)
+  text-kept is within = of (is_written s text st now file bytes (commit_frames text st.tree) refl h)
     where
       of : IsWritten s text st now file bytes → IsStore s now
       of (Nothing none same) = subst (λ (x : Store). IsStore s x) (sym same) is
@@ -78,7 +78,7 @@ module _ (s : Settings) (st : Store) (file : List ℕ) (is : IsStoreOf s st file
   some_frame : (f : Frame) (fs : List Frame) → f ∷ fs ≢ []
   some_frame f fs e = absurd (cc)
 
-  read_by : (text : List Frame) → flush_text st.version st.tree ≡ text → (now : Store) (bytes : List ℕ) → after_flush s st file ≡ left now bytes → store_of_disk bytes ≡ Ok (s, now)
+  read_by : (text : List Frame) → flush_frames st.version st.tree ≡ text → (now : Store) (bytes : List ℕ) → after_flush s st file ≡ left now bytes → store_of_disk bytes ≡ Ok (s, now)
   read_by [] e now bytes h =
       let nothing : left st file ≡ left now bytes = sym (ap (after_text s st file) e) ∙ h in
       none_by now bytes (all-written s st file is.is.proper is.is.logs is.step e) nothing
@@ -86,7 +86,7 @@ module _ (s : Settings) (st : Store) (file : List ℕ) (is : IsStoreOf s st file
 
   -- the disk after a flush encodes the store after it
   pub flush-read_back : (now : Store) (bytes : List ℕ) → after_flush s st file ≡ left now bytes → (store_of_disk bytes ≡ Ok (s, now)) × IsStoreOf s now bytes
-  flush-read_back now bytes h = let read = read_by (flush_text st.version st.tree) refl now bytes h in (read, store-read s now bytes read)
+  flush-read_back now bytes h = let read = read_by (flush_frames st.version st.tree) refl now bytes h in (read, store-read s now bytes read)
 
 pub flushed-tree : (s : Settings) (st now : Store) (file bytes : List ℕ) → IsStore s st → after_flush s st file ≡ left now bytes → now.tree ≡ flushed st.tree
 flushed-tree s st now file bytes is h = text-tree s (Flush st.version) st now file bytes h (λ none. nothing-due st.tree is.proper.tree.rising is.logs st.version none)
@@ -97,8 +97,8 @@ flush-kept s st now file bytes is within h = text-kept s (Flush st.version) st n
 -- ---- an upgrade
 
 module _ (s : Settings) (st now : Store) (file bytes : List ℕ) (h : after_upgrade s st file ≡ left now bytes) where
-  upgraded : after_text s (of_version_two st) file (upgrade_text st.tree) ≡ left now bytes
-  upgraded = upgrade-done st.version (after_text s (of_version_two st) file (upgrade_text st.tree)) now bytes h
+  upgraded : after_text s (of_version_two st) file (upgrade_frames st.tree) ≡ left now bytes
+  upgraded = upgrade-done st.version (after_text s (of_version_two st) file (upgrade_frames st.tree)) now bytes h
 
   -- the disk after an upgrade encodes the store after it
   pub upgrade-read_back : IsStoreOf s st file → HasFrames s Upgrade st.tree → (store_of_disk bytes ≡ Ok (s, now)) × IsStoreOf s now bytes

@@ -18,12 +18,12 @@ use Rattle.mapping.proofs.SameTable.{same_logged}
 use Rattle.mapping.proofs.SameTree.{same_tree}
 use Rattle.mapping.proofs.TableLemmas.{differ}
 use Rattle.mapping.proofs.Walk.{nothing_found}
-use Rattle.frame_codec.specs.declared.format.Spelling.{Spelling}
+use Rattle.frame_codec.specs.declared.format.KeyEncoding.{KeyEncoding}
 use Rattle.frame_codec.specs.Frame.{Content, Frame}
 use Rattle.flush_log.specs.AfterFlush.{store_after}
-use Rattle.flush_log.specs.FlushText.{spelling_of, run_contents, lacking, flush_text, logged_whole, tree_in_log, flushed}
+use Rattle.flush_log.specs.FlushText.{encoding_of, run_contents, lacking, flush_frames, logged_whole, tree_in_log, flushed}
 use Rattle.flush_log.specs.Slot.{Slot}
-use Rattle.flush_log.specs.declared.text.Text.TheVariants.{Flush}
+use Rattle.flush_log.specs.declared.text.CommitKind.TheVariants.{Flush}
 use Rattle.flush_log.proofs.SlotLemmas.{IsSlot, store_slot-read, slot-stands, slot-is}
 use Rattle.recovery.specs.InStep.{AreInStep, IsInStep}
 use Rattle.recovery.specs.LogPages.{contents_of, pages_of}
@@ -52,15 +52,15 @@ all_there k p e l =
     let all = runs_long p in
     omega arith
 
-whole_by : (spelling : Spelling) (o : Option PageOfKind) (listed : Option Logged) → ((l : Logged) → listed ≡ Some l → IsTrueOf o l) → lacking spelling o (or_no listed) ≡ [] → or_no listed ≡ whole_of o
-whole_by spelling (Some p) None t e = absurd (cc)
-whole_by spelling (Some p) (Some No) t e = absurd (cc)
-whole_by spelling (Some p) (Some Old) t e = absurd (cc)
-whole_by spelling (Some p) (Some (Upto k)) t e = ap (λ (n : ℕ). Upto n) (all_there k p e (has_depth k p (t (Upto k) refl)))
-whole_by spelling None None t e = refl
-whole_by spelling None (Some No) t e = refl
-whole_by spelling None (Some Old) t e = absurd (cc)
-whole_by spelling None (Some (Upto k)) t e = absurd (t (Upto k) refl)
+whole_by : (encoding : KeyEncoding) (o : Option PageOfKind) (listed : Option Logged) → ((l : Logged) → listed ≡ Some l → IsTrueOf o l) → lacking encoding o (or_no listed) ≡ [] → or_no listed ≡ whole_of o
+whole_by encoding (Some p) None t e = absurd (cc)
+whole_by encoding (Some p) (Some No) t e = absurd (cc)
+whole_by encoding (Some p) (Some Old) t e = absurd (cc)
+whole_by encoding (Some p) (Some (Upto k)) t e = ap (λ (n : ℕ). Upto n) (all_there k p e (has_depth k p (t (Upto k) refl)))
+whole_by encoding None None t e = refl
+whole_by encoding None (Some No) t e = refl
+whole_by encoding None (Some Old) t e = absurd (cc)
+whole_by encoding None (Some (Upto k)) t e = absurd (t (Upto k) refl)
 
 -- ---- a log that has every page as it is
 
@@ -99,11 +99,11 @@ logs-in_log ps root height rising = record {
 
 module _ (t : Tree) (rising : AreRisingPids (keys_of t.pages)) (logs : AreLogsTrue t) where
   -- a tree that the log lacks nothing of is the one that is written
-  pub nothing-due : (version : Version) → flush_text version t ≡ [] → flushed t ≡ t
+  pub nothing-due : (version : Version) → flush_frames version t ≡ [] → flushed t ≡ t
   nothing-due version e =
       let same : (pid : ℕ) → logged_of (flushed t) pid ≡ logged_of t pid = λ pid.
       logged-whole t.pages pid
-      ∙ sym (whole_by (spelling_of version) (page_at t.pages pid) (listed_at t.logged pid) (λ l h. true_at t.pages t.logged pid l logs.each h) (sym (text-of_pid (Flush version) t rising logs pid) ∙ ap (contents_of pid) e)) in
+      ∙ sym (whole_by (encoding_of version) (page_at t.pages pid) (listed_at t.logged pid) (λ l h. true_at t.pages t.logged pid l logs.each h) (sym (text-of_pid (Flush version) t rising logs pid) ∙ ap (contents_of pid) e)) in
       ap (λ (ls : List (ℕ × Logged)). (let u : Tree = record { pages = t.pages; root = t.root; height = t.height; logged = ls } in u)) (same_logged (flushed t) t (logs-in_log t.pages t.root t.height rising) logs same)
 
 -- ---- the disk
@@ -117,7 +117,7 @@ proper-read s on_disk file by =
     let height = (slot-read s on_disk file by).height in
     (nothing_found s (tree_by_log by.slot (frames_in by.found)) (record { rising = rising-pages_of (frames_in by.found); some = height.0 })).0 by.proper
 
-module _ (s : Settings) (st on_disk : Store) (file : List ℕ) (proper : IsProper s st.tree) (logs : AreLogsTrue st.tree) (by : StandsBy s file on_disk) (step : AreInStep st on_disk) (none : flush_text st.version st.tree ≡ []) where
+module _ (s : Settings) (st on_disk : Store) (file : List ℕ) (proper : IsProper s st.tree) (logs : AreLogsTrue st.tree) (by : StandsBy s file on_disk) (step : AreInStep st on_disk) (none : flush_frames st.version st.tree ≡ []) where
   abbrev tree_read : Tree
   tree_read = tree_by_log by.slot (frames_in by.found)
 
@@ -143,7 +143,7 @@ module _ (s : Settings) (st on_disk : Store) (file : List ℕ) (proper : IsPrope
       ∙ same_store st on_disk tree_read slot step store
 
 -- a store whose log lacks nothing is the store that its disk encodes
-pub all-written : (s : Settings) (st : Store) (file : List ℕ) → IsProper s st.tree → AreLogsTrue st.tree → IsInStep s st file → flush_text st.version st.tree ≡ [] → store_of_disk file ≡ Ok (s, st)
+pub all-written : (s : Settings) (st : Store) (file : List ℕ) → IsProper s st.tree → AreLogsTrue st.tree → IsInStep s st file → flush_frames st.version st.tree ≡ [] → store_of_disk file ≡ Ok (s, st)
 all-written s st file proper logs (on_disk, is, are) none =
     is ∙ ap (λ (x : Store). answer x) (same_as_read s st on_disk file proper logs (store-stands s file on_disk is) are none)
   where

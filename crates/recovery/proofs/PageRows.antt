@@ -2,7 +2,7 @@
 use Rattle.std.specs.Prelude.{◌≡◌, [], ◌∷◌, Some, None, codes}
 use Rattle.std.proofs.Common.{refl}
 use Rattle.index_page.specs.Page.PageOfKind.{Leaf, Index}
-use Rattle.frame_codec.specs.declared.format.Spelling.TheVariants.{Whole}
+use Rattle.frame_codec.specs.declared.format.KeyEncoding.TheVariants.{Whole}
 use Rattle.frame_codec.specs.Frame.{Content}
 use Rattle.frame_codec.specs.Frame.Content.{FullLeaf, DeltaLeaf, FullIndex, DeltaIndex, Free}
 use Rattle.flush_log.proofs.Literals.{pair, set, frame}

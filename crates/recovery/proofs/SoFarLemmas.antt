@@ -7,7 +7,7 @@ use Rattle.std.specs.List.{AllByRecursion}
 use Rattle.frame_codec.specs.declared.format.Format.{Format}
 use Rattle.frame_codec.specs.Frame.{is_frame}
 use Rattle.flush_log.specs.Reading.{Found, followed_by}
-use Rattle.recovery.specs.Gathered.{AreLive, AreGathered, IsSoFar}
+use Rattle.recovery.specs.Gathered.{AreLive, AreGathered, IsPartialLog}
 use Rattle.recovery.specs.Recovered.{IsLate}
 use Rattle.recovery.specs.Scan.{HeldSegment, scanned, HeldFrame, said_of_frame, said_of, held_frame, frames_held, said_by_scan}
 use Rattle.recovery.specs.declared.gather.Gathering.{Gathering}
@@ -28,15 +28,15 @@ broken fault = Err fault
 
 module _ (w : Wanted) (gathering : Gathering) where
   -- without a fault the frames are gathered
-  pub found-of : (o : Option Fault) (state : ReadResult) → is_some o ≡ false → IsSoFar w gathering o state → (found : List Found) × (state ≡ all found) × AreLive w gathering found
+  pub found-of : (o : Option Fault) (state : ReadResult) → is_some o ≡ false → IsPartialLog w gathering o state → (found : List Found) × (state ≡ all found) × AreLive w gathering found
   found-of None state none h = h
   found-of (Some fault) state none h = absurd (cc)
 
-  pub found-none : (o : Option Fault) (state : ReadResult) → o ≡ None → IsSoFar w gathering o state → (found : List Found) × (state ≡ all found) × AreLive w gathering found
+  pub found-none : (o : Option Fault) (state : ReadResult) → o ≡ None → IsPartialLog w gathering o state → (found : List Found) × (state ≡ all found) × AreLive w gathering found
   found-none None state none h = h
   found-none (Some fault) state none h = absurd (cc)
 
-  pub fault-some : (o : Option Fault) (state : ReadResult) (fault : Fault) → o ≡ Some fault → IsSoFar w gathering o state → state ≡ broken fault
+  pub fault-some : (o : Option Fault) (state : ReadResult) (fault : Fault) → o ≡ Some fault → IsPartialLog w gathering o state → state ≡ broken fault
   fault-some None state fault some h = absurd (cc)
   fault-some (Some g) state fault some h = let is : g ≡ fault = cc in h ∙ ap broken is
 
@@ -90,7 +90,7 @@ pub broken-stays : (fault : Fault) (read : List ReadResult) → fold followed_by
 broken-stays fault [] = refl
 broken-stays fault (r ∷ read) = broken-stays fault read
 
-pub stays-broken : (w : Wanted) (gathering : Gathering) (o : Option Fault) (state : ReadResult) (read : List ReadResult) → is_some o ≡ true → IsSoFar w gathering o state → IsSoFar w gathering o (fold followed_by state read)
+pub stays-broken : (w : Wanted) (gathering : Gathering) (o : Option Fault) (state : ReadResult) (read : List ReadResult) → is_some o ≡ true → IsPartialLog w gathering o state → IsPartialLog w gathering o (fold followed_by state read)
 stays-broken w gathering None state read some h = absurd (cc)
 stays-broken w gathering (Some fault) state read some h = ap (λ (t : ReadResult). fold followed_by t read) h ∙ broken-stays fault read
 
@@ -109,7 +109,7 @@ pub record AreLeft (w : Wanted) (gathering : Gathering) (o : Option Fault) (ever
   pub read : List ReadResult
   pub all : fold followed_by so_far read ≡ every
   pub same : map said_of read ≡ map said_by_scan left
-  pub is : IsSoFar w gathering o so_far
+  pub is : IsPartialLog w gathering o so_far
 
 -- the first of them
 record IsFirst (every so_far : ReadResult) (d : ScanDone) (rest : List ScanDone) : Type 0 where
@@ -140,7 +140,7 @@ module _ (w : Wanted) (gathering : Gathering) (o : Option Fault) (every : ReadRe
         read = f.following;
         all = f.all;
         same = f.same;
-        is = subst (λ (p : Option Fault). IsSoFar w next p (followed_by h.so_far f.one)) (sym none) (found ++ more, both, add found more same live);
+        is = subst (λ (p : Option Fault). IsPartialLog w next p (followed_by h.so_far f.one)) (sym none) (found ++ more, both, add found more same live);
       }
 
   -- or which has one
@@ -152,11 +152,11 @@ module _ (w : Wanted) (gathering : Gathering) (o : Option Fault) (every : ReadRe
       sym f.all ∙ ap (λ (t : ReadResult). fold followed_by t f.following) (ap (λ (t : ReadResult). followed_by t f.one) state ∙ ap (λ (t : ReadResult). followed_by (all found) t) one) ∙ broken-stays fault f.following
 
 -- if none remains
-pub left-none : (w : Wanted) (gathering : Gathering) (o : Option Fault) (every : ReadResult) (left : List ScanDone) → left ≡ [] → AreLeft w gathering o every left → IsSoFar w gathering o every
+pub left-none : (w : Wanted) (gathering : Gathering) (o : Option Fault) (every : ReadResult) (left : List ScanDone) → left ≡ [] → AreLeft w gathering o every left → IsPartialLog w gathering o every
 left-none w gathering o every left none h = of h.read h.all (h.same ∙ ap (λ (ds : List ScanDone). map said_by_scan ds) none)
   where
-    of : (read : List ReadResult) → fold followed_by h.so_far read ≡ every → map said_of read ≡ [] → IsSoFar w gathering o every
-    of [] all same = subst (λ (t : ReadResult). IsSoFar w gathering o t) all h.is
+    of : (read : List ReadResult) → fold followed_by h.so_far read ≡ every → map said_of read ≡ [] → IsPartialLog w gathering o every
+    of [] all same = subst (λ (t : ReadResult). IsPartialLog w gathering o t) all h.is
     of (r ∷ rs) all same = absurd (cc)
 
 -- ---- what a round makes

@@ -8,7 +8,7 @@ use Rattle.std.proofs.lemmas.List.Sums.{fold-append}
 use Rattle.index_page.specs.Over.{IsOver}
 use Rattle.index_page.specs.Page.{Page, PageOfKind}
 use Rattle.index_page.specs.Page.PageOfKind.{Leaf, Index}
-use Rattle.frame_codec.specs.declared.format.Spelling.{Spelling}
+use Rattle.frame_codec.specs.declared.format.KeyEncoding.{KeyEncoding}
 use Rattle.frame_codec.specs.Frame.{Content}
 use Rattle.frame_codec.specs.Frame.Content.{DeltaLeaf, DeltaIndex, Free}
 use Rattle.flush_log.specs.FlushText.{base_content, run_contents, whole_page}
@@ -77,13 +77,13 @@ no_runs_start : (p : PageOfKind) → list_any is_start (run_contents p) ≡ fals
 no_runs_start (Leaf p) = none_starts (λ q. Leaf q) (λ run. DeltaLeaf run) leaf_step (λ run. refl) (reverse p.layers.runs)
 no_runs_start (Index p) = none_starts (λ q. Index q) (λ run. DeltaIndex run) index_step (λ run. refl) (reverse p.layers.runs)
 
-base_starts : (spelling : Spelling) (p : PageOfKind) → is_start (base_content spelling p) ≡ true
-base_starts spelling (Leaf p) = refl
-base_starts spelling (Index p) = refl
+base_starts : (encoding : KeyEncoding) (p : PageOfKind) → is_start (base_content encoding p) ≡ true
+base_starts encoding (Leaf p) = refl
+base_starts encoding (Index p) = refl
 
-pub state-whole : (spelling : Spelling) (p : PageOfKind) → page_from_start (whole_page spelling p) ≡ Present p
-state-whole spelling (Leaf p) = fold_all (λ q. Leaf q) (λ run. DeltaLeaf run) leaf_step (λ run. refl) p.low p.layers.base p.layers.runs
-state-whole spelling (Index p) = fold_all (λ q. Index q) (λ run. DeltaIndex run) index_step (λ run. refl) p.low p.layers.base p.layers.runs
+pub state-whole : (encoding : KeyEncoding) (p : PageOfKind) → page_from_start (whole_page encoding p) ≡ Present p
+state-whole encoding (Leaf p) = fold_all (λ q. Leaf q) (λ run. DeltaLeaf run) leaf_step (λ run. refl) p.low p.layers.base p.layers.runs
+state-whole encoding (Index p) = fold_all (λ q. Index q) (λ run. DeltaIndex run) index_step (λ run. refl) p.low p.layers.base p.layers.runs
 
 fold-newer : (k : ℕ) (logged now : PageOfKind) → IsLogged k (Some logged) (Some now) → fold continued (Present logged) (drop k (run_contents now)) ≡ Present now
 fold-newer k (Leaf x) (Leaf p) h = fold_newer (λ q. Leaf q) (λ run. DeltaLeaf run) leaf_step (λ run. refl) k x p h.0 h.1
@@ -94,8 +94,8 @@ fold-newer k (Index x) (Leaf p) h = absurd h.1
 -- ---- the page after the new frames of a commit follow those in the log
 
 -- the whole page, whatever comes before it
-pub page-whole : (spelling : Spelling) (cs : List Content) (p : PageOfKind) → page_by_log (cs ++ whole_page spelling p) ≡ Present p
-page-whole spelling cs p = ap page_from_start (from_last-at is_start cs (base_content spelling p) (run_contents p) (base_starts spelling p) (no_runs_start p)) ∙ state-whole spelling p
+pub page-whole : (encoding : KeyEncoding) (cs : List Content) (p : PageOfKind) → page_by_log (cs ++ whole_page encoding p) ≡ Present p
+page-whole encoding cs p = ap page_from_start (from_last-at is_start cs (base_content encoding p) (run_contents p) (base_starts encoding p) (no_runs_start p)) ∙ state-whole encoding p
 
 -- that there is no page
 pub page-free : (cs : List Content) → page_by_log (cs ++ Free ∷ []) ≡ Missing

@@ -16,8 +16,8 @@ use Rattle.mapping.specs.Tree.{Logged, Tree, page_at, logged_of}
 use Rattle.mapping.specs.Tree.Logged.{Upto}
 use Rattle.mapping.specs.TreeInMemory.{TreeInMemory, AreAllHome, home_pages, tree_of}
 use Rattle.frame_codec.specs.Frame.{Content}
-use Rattle.flush_log.specs.FlushText.{spelling_of, lacking, frames_of, pid_text, pids_to_write, flush_text, logged_whole, flushed}
-use Rattle.flush_log.specs.declared.text.Text.TheVariants.{Flush}
+use Rattle.flush_log.specs.FlushText.{encoding_of, lacking, frames_of, pid_frames, pids_to_write, flush_frames, logged_whole, flushed}
+use Rattle.flush_log.specs.declared.text.CommitKind.TheVariants.{Flush}
 use Rattle.recovery.proofs.NothingDue.{each_has}
 use Rattle.flush_log.proofs.ProperPages.{IsGoodOfKind, page-is_good}
 
@@ -47,17 +47,17 @@ no_frames pid (c ∷ cs) e = absurd (cc)
 
 module _ (version : Version) (t : Tree) where
   abbrev LacksNothing : ℕ → Type 0
-  LacksNothing pid = lacking (spelling_of version) (page_at t.pages pid) (logged_of t pid) ≡ []
+  LacksNothing pid = lacking (encoding_of version) (page_at t.pages pid) (logged_of t pid) ≡ []
 
-  none_lacks : (pids : List ℕ) → flat_map (pid_text (Flush version) t) pids ≡ [] → AllByRecursion LacksNothing pids
+  none_lacks : (pids : List ℕ) → flat_map (pid_frames (Flush version) t) pids ≡ [] → AllByRecursion LacksNothing pids
   none_lacks [] e = tt
-  none_lacks (pid ∷ pids) e = let (here, rest) = both_empty (pid_text (Flush version) t pid) (flat_map (pid_text (Flush version) t) pids) e in (no_frames pid (lacking (spelling_of version) (page_at t.pages pid) (logged_of t pid)) here, none_lacks pids rest)
+  none_lacks (pid ∷ pids) e = let (here, rest) = both_empty (pid_frames (Flush version) t pid) (flat_map (pid_frames (Flush version) t) pids) e in (no_frames pid (lacking (encoding_of version) (page_at t.pages pid) (logged_of t pid)) here, none_lacks pids rest)
 
-  nothing_written : (pids : List ℕ) → AllByRecursion LacksNothing pids → flat_map (pid_text (Flush version) t) pids ≡ []
+  nothing_written : (pids : List ℕ) → AllByRecursion LacksNothing pids → flat_map (pid_frames (Flush version) t) pids ≡ []
   nothing_written [] a = refl
-  nothing_written (pid ∷ pids) a = ap (λ (cs : List Content). frames_of pid cs ++ flat_map (pid_text (Flush version) t) pids) a.0 ∙ nothing_written pids a.1
+  nothing_written (pid ∷ pids) a = ap (λ (cs : List Content). frames_of pid cs ++ flat_map (pid_frames (Flush version) t) pids) a.0 ∙ nothing_written pids a.1
 
-  pub empty-text : (flush_text version t ≡ []) ↔ AllByRecursion LacksNothing (pids_to_write t)
+  pub empty-text : (flush_frames version t ≡ []) ↔ AllByRecursion LacksNothing (pids_to_write t)
   empty-text = (none_lacks (pids_to_write t), nothing_written (pids_to_write t))
 
 -- ---- log states

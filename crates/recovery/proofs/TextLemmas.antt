@@ -17,11 +17,11 @@ use Rattle.mapping.proofs.InUse.{among-lookup}
 use Rattle.mapping.proofs.KnownPids.{none_above, among-with_numbers, rising-with_numbers, among-old}
 use Rattle.mapping.proofs.SameTable.{same_table}
 use Rattle.mapping.proofs.TableLemmas.{same_pid}
-use Rattle.frame_codec.specs.declared.format.Spelling.{Spelling}
+use Rattle.frame_codec.specs.declared.format.KeyEncoding.{KeyEncoding}
 use Rattle.frame_codec.specs.Frame.{Content, Frame}
-use Rattle.flush_log.specs.FlushText.{spelling_of, lacking, frames_of, version_with, taken, pid_text, pids_to_write, text_of}
-use Rattle.flush_log.specs.declared.text.Text.{Text}
-use Rattle.flush_log.specs.declared.text.Text.TheVariants.{Flush, Upgrade}
+use Rattle.flush_log.specs.FlushText.{encoding_of, lacking, frames_of, version_with, taken, pid_frames, pids_to_write, commit_frames}
+use Rattle.flush_log.specs.declared.text.CommitKind.{CommitKind}
+use Rattle.flush_log.specs.declared.text.CommitKind.TheVariants.{Flush, Upgrade}
 use Rattle.recovery.specs.InStep.{IsLogged}
 use Rattle.recovery.specs.LogPages.{contents_of, in_log, pages_of, broken_in}
 use Rattle.recovery.specs.PageByLog.{InLog, page_by_log, page_in, is_broken}
@@ -79,13 +79,13 @@ pub true_at : (pages : List (ℕ × PageOfKind)) (ls : List (ℕ × Logged)) (pi
 true_at pages [] pid l a h = absurd (cc)
 true_at pages (e ∷ es) pid l a h = true_by (is_eq (nat_cmp pid e.0)) pages e.0 pid e.1 (listed_at es pid) l refl a.0 (λ r. true_at pages es pid l a.1 r) h
 
-taken-no : (text : Text) (l : Logged) → taken text l ≡ No → l ≡ No
+taken-no : (text : CommitKind) (l : Logged) → taken text l ≡ No → l ≡ No
 taken-no (Flush version) l e = e
 taken-no Upgrade No e = refl
 taken-no Upgrade Old e = absurd (cc)
 taken-no Upgrade (Upto k) e = absurd (cc)
 
-taken-upto : (text : Text) (l : Logged) (k : ℕ) → taken text l ≡ Upto k → l ≡ Upto k
+taken-upto : (text : CommitKind) (l : Logged) (k : ℕ) → taken text l ≡ Upto k → l ≡ Upto k
 taken-upto (Flush version) l k e = e
 taken-upto Upgrade No k e = absurd (cc)
 taken-upto Upgrade Old k e = absurd (cc)
@@ -93,22 +93,22 @@ taken-upto Upgrade (Upto n) k e = absurd (cc)
 
 -- ---- the frames of a tree
 
-module _ (text : Text) (t : Tree) where
-  abbrev own : Spelling
-  own = spelling_of (version_with text)
+module _ (text : CommitKind) (t : Tree) where
+  abbrev own : KeyEncoding
+  own = encoding_of (version_with text)
 
   abbrev due : ℕ → List Content
   due pid = lacking own (page_at t.pages pid) (taken text (logged_of t pid))
 
-  text-under : (ns : List ℕ) (pid : ℕ) → AreRisingPids ns → contents_of pid (flat_map (pid_text text t) ns) ≡ cond (is_among pid ns) (due pid) []
-  text-under ns pid r = made-under (pid_text text t) due (λ n q. own_by (nat_eq q n) n q (due n) (turned (nat_eq q n) q n refl)) ns pid r
+  text-under : (ns : List ℕ) (pid : ℕ) → AreRisingPids ns → contents_of pid (flat_map (pid_frames text t) ns) ≡ cond (is_among pid ns) (due pid) []
+  text-under ns pid r = made-under (pid_frames text t) due (λ n q. own_by (nat_eq q n) n q (due n) (turned (nat_eq q n) q n refl)) ns pid r
 
   none_by : {V : Type 0} (o : Option V) → is_some o ≡ false → o ≡ None
   none_by None e = refl
   none_by (Some v) e = absurd (cc)
 
   -- of a pid without a page nothing is due, if the log has none either
-  nothing_due : (taker : Text) (listed : Option Logged) → ((l : Logged) → listed ≡ Some l → IsTrueOf None l) → is_old (or_no listed) ≡ false → lacking own None (taken taker (or_no listed)) ≡ []
+  nothing_due : (taker : CommitKind) (listed : Option Logged) → ((l : Logged) → listed ≡ Some l → IsTrueOf None l) → is_old (or_no listed) ≡ false → lacking own None (taken taker (or_no listed)) ≡ []
   nothing_due (Flush version) None true_of e = refl
   nothing_due Upgrade None true_of e = refl
   nothing_due taker (Some No) true_of e = absurd (true_of No refl)
@@ -127,7 +127,7 @@ module _ (text : Text) (t : Tree) where
         sym (ap (λ (o : Option PageOfKind). lacking own o (taken text (logged_of t pid))) none ∙ nothing_due text (listed_at t.logged pid) true_of old)
 
     -- for each pid, a commit has the frames that the log lacks
-    pub text-of_pid : (pid : ℕ) → contents_of pid (text_of text t) ≡ due pid
+    pub text-of_pid : (pid : ℕ) → contents_of pid (commit_frames text t) ≡ due pid
     text-of_pid pid =
         text-under (pids_to_write t) pid (rising-with_numbers (keys_of (filter (λ l. is_old l.1) t.logged)) (keys_of t.pages) pages)
         ∙ else_due (is_among pid (pids_to_write t)) pid refl
@@ -152,20 +152,20 @@ missing Missing e f = refl
 missing (Present p) e f = absurd (cc)
 missing Broken e f = absurd (cc)
 
-newer_by : (spelling : Spelling) (cs : List Content) (k : ℕ) (state : InLog) (now : Option PageOfKind) → page_by_log cs ≡ state → IsLogged k (page_in state) now → page_by_log (cs ++ lacking spelling now (Upto k)) ≡ as_read now
-newer_by spelling cs k Missing now e h = absurd h
-newer_by spelling cs k Broken now e h = absurd h
-newer_by spelling cs k (Present x) None e h = absurd h
-newer_by spelling cs k (Present x) (Some p) e h = page-newer cs k x p e h
+newer_by : (encoding : KeyEncoding) (cs : List Content) (k : ℕ) (state : InLog) (now : Option PageOfKind) → page_by_log cs ≡ state → IsLogged k (page_in state) now → page_by_log (cs ++ lacking encoding now (Upto k)) ≡ as_read now
+newer_by encoding cs k Missing now e h = absurd h
+newer_by encoding cs k Broken now e h = absurd h
+newer_by encoding cs k (Present x) None e h = absurd h
+newer_by encoding cs k (Present x) (Some p) e h = page-newer cs k x p e h
 
 -- what contents say, with those after them that are written: just the page that there is
-after_by : (spelling : Spelling) (cs : List Content) (now : Option PageOfKind) (l : Logged) → is_broken (page_by_log cs) ≡ false → (l ≡ No → page_in (page_by_log cs) ≡ None) → ((k : ℕ) → l ≡ Upto k → IsLogged k (page_in (page_by_log cs)) now)
-    → page_by_log (cs ++ lacking spelling now l) ≡ as_read now
-after_by spelling cs (Some p) No sound none upto = page-whole spelling cs p
-after_by spelling cs (Some p) Old sound none upto = page-whole spelling cs p
-after_by spelling cs None No sound none upto = ap page_by_log (append-nil cs) ∙ missing (page_by_log cs) (none refl) sound
-after_by spelling cs None Old sound none upto = page-free cs
-after_by spelling cs now (Upto k) sound none upto = newer_by spelling cs k (page_by_log cs) now refl (upto k refl)
+after_by : (encoding : KeyEncoding) (cs : List Content) (now : Option PageOfKind) (l : Logged) → is_broken (page_by_log cs) ≡ false → (l ≡ No → page_in (page_by_log cs) ≡ None) → ((k : ℕ) → l ≡ Upto k → IsLogged k (page_in (page_by_log cs)) now)
+    → page_by_log (cs ++ lacking encoding now l) ≡ as_read now
+after_by encoding cs (Some p) No sound none upto = page-whole encoding cs p
+after_by encoding cs (Some p) Old sound none upto = page-whole encoding cs p
+after_by encoding cs None No sound none upto = ap page_by_log (append-nil cs) ∙ missing (page_by_log cs) (none refl) sound
+after_by encoding cs None Old sound none upto = page-free cs
+after_by encoding cs now (Upto k) sound none upto = newer_by encoding cs k (page_by_log cs) now refl (upto k refl)
 
 -- a tree whose log states are true of the pages that frames make
 pub record IsKnown (t : Tree) (fs : List Frame) : Type 0 where
@@ -175,21 +175,21 @@ pub record IsKnown (t : Tree) (fs : List Frame) : Type 0 where
   pub none : (pid : ℕ) → logged_of t pid ≡ No → page_at (pages_of fs) pid ≡ None
   pub upto : (pid k : ℕ) → logged_of t pid ≡ Upto k → IsLogged k (page_at (pages_of fs) pid) (page_at t.pages pid)
 
-module _ (text : Text) (t : Tree) (fs : List Frame) (known : IsKnown t fs) where
+module _ (text : CommitKind) (t : Tree) (fs : List Frame) (known : IsKnown t fs) where
   -- what the log then says of each pid
-  pub state-after : (pid : ℕ) → in_log (fs ++ text_of text t) pid ≡ as_read (page_at t.pages pid)
+  pub state-after : (pid : ℕ) → in_log (fs ++ commit_frames text t) pid ≡ as_read (page_at t.pages pid)
   state-after pid =
       let here : page_at (pages_of fs) pid ≡ page_in (in_log fs pid) = page_at-pages_of fs pid in
-      ap page_by_log (contents-append pid fs (text_of text t) ∙ ap (λ (cs : List Content). contents_of pid fs ++ cs) (text-of_pid text t known.pages known.logs pid))
-      ∙ after_by (spelling_of (version_with text)) (contents_of pid fs) (page_at t.pages pid) (taken text (logged_of t pid)) (none_broken fs pid known.sound)
+      ap page_by_log (contents-append pid fs (commit_frames text t) ∙ ap (λ (cs : List Content). contents_of pid fs ++ cs) (text-of_pid text t known.pages known.logs pid))
+      ∙ after_by (encoding_of (version_with text)) (contents_of pid fs) (page_at t.pages pid) (taken text (logged_of t pid)) (none_broken fs pid known.sound)
       (λ e. sym here ∙ known.none pid (taken-no text (logged_of t pid) e))
       (λ k e. rw (sym here) (known.upto pid k (taken-upto text (logged_of t pid) k e)))
 
   -- so its pages are those of the tree
-  pub pages-after : pages_of (fs ++ text_of text t) ≡ t.pages
+  pub pages-after : pages_of (fs ++ commit_frames text t) ≡ t.pages
   pages-after =
-      same_table (pages_of (fs ++ text_of text t)) t.pages (rising-pages_of (fs ++ text_of text t)) known.pages
-      (λ pid. page_at-pages_of (fs ++ text_of text t) pid ∙ ap page_in (state-after pid) ∙ state-back (page_at t.pages pid))
+      same_table (pages_of (fs ++ commit_frames text t)) t.pages (rising-pages_of (fs ++ commit_frames text t)) known.pages
+      (λ pid. page_at-pages_of (fs ++ commit_frames text t) pid ∙ ap page_in (state-after pid) ∙ state-back (page_at t.pages pid))
 
-  pub sound-after : broken_in (fs ++ text_of text t) ≡ None
-  sound-after = not_broken (fs ++ text_of text t) (λ pid. ap is_broken (state-after pid) ∙ state-sound (page_at t.pages pid))
+  pub sound-after : broken_in (fs ++ commit_frames text t) ≡ None
+  sound-after = not_broken (fs ++ commit_frames text t) (λ pid. ap is_broken (state-after pid) ∙ state-sound (page_at t.pages pid))

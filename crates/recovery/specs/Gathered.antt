@@ -51,12 +51,12 @@ wanted_of w [] = []
 wanted_of w (f ∷ fs) = if is_wanted_in w f.segment && is_base f.frame.content then frames_in (f ∷ fs) else []
 
 -- the concatenated encodings of frames
-abbrev pub spelled : List Frame → Bytes
-spelled fs = flat_map bytes_of fs
+abbrev pub encoded : List Frame → Bytes
+encoded fs = flat_map bytes_of fs
 
 -- the size in bytes of a page's live frames if the first is a base, else 0; capped at the greatest 64-bit number
 abbrev pub live_size : List Found → ℕ
-live_size fs = min (length (spelled (wanted_of Every fs))) (2 ^ 64 - 1)
+live_size fs = min (length (encoded (wanted_of Every fs))) (2 ^ 64 - 1)
 
 -- ---- one page
 
@@ -73,7 +73,7 @@ pub record IsKept (w : Wanted) (k : Kept) (fs : List Found) : Type 0 where
   pub state : IsStateOf k.state (contents_in fs)
   pub segment : k.segment ≡ first_segment fs
   pub size : k.size ≡ live_size fs
-  pub frames : k.frames.items ≡ spelled (wanted_of w fs)
+  pub frames : k.frames.items ≡ encoded (wanted_of w fs)
 
 -- ---- one more frame
 
@@ -161,9 +161,9 @@ pub record AreGathered (s : Format) (w : Wanted) (g : Gathering) (found : List F
   pub within : AllByRecursion (λ f. is_frame s f.frame ≡ true) found
 
 -- what is retained of a log whose segments so far have these contents: a gathering, as long as there is no fault; else the fault
-abbrev pub IsSoFar : Wanted → Gathering → Option Fault → Result (List Found) Fault → Type 0
-IsSoFar w g None t = (found : List Found) × (t ≡ Ok found) × AreLive w g found
-IsSoFar w g (Some fault) t = t ≡ Err fault
+abbrev pub IsPartialLog : Wanted → Gathering → Option Fault → Result (List Found) Fault → Type 0
+IsPartialLog w g None t = (found : List Found) × (t ≡ Ok found) × AreLive w g found
+IsPartialLog w g (Some fault) t = t ≡ Err fault
 
 -- ---- frames that do not fit together
 

@@ -9,9 +9,9 @@ use Rattle.frame_codec.specs.Frame.Content.{FullLeaf, DeltaLeaf, FullIndex, Delt
 
 -- the page of a base by itself; a new kind of base needs a new case
 abbrev pub base_in : Content → Option PageOfKind
-base_in (FullLeaf spelling low base) = Some (Leaf (bare low base))
+base_in (FullLeaf encoding low base) = Some (Leaf (bare low base))
 base_in (DeltaLeaf run) = None
-base_in (FullIndex spelling low base) = Some (Index (bare low base))
+base_in (FullIndex encoding low base) = Some (Index (bare low base))
 base_in (DeltaIndex run) = None
 base_in Free = None
 

@@ -8,12 +8,12 @@ ghost use Rattle.mapping.specs.Proper.{AreLogsTrue, IsProper};
 ghost use Rattle.flush_log.specs.AfterFlush.{after_flush, after_upgrade, flush_calls, upgrade_calls};
 ghost use Rattle.flush_log.specs.Commit.{LeftDuring, IsUncommitted};
 ghost use Rattle.flush_log.specs.Layout.{spans};
-ghost use Rattle.flush_log.specs.FlushText.{flush_text, upgrade_text, HasFrames, flushed};
+ghost use Rattle.flush_log.specs.FlushText.{flush_frames, upgrade_frames, HasFrames, flushed};
 ghost use Rattle.flush_log.specs.NewStore.{disk_of_new};
 ghost use Rattle.flush_log.specs.Overlay.{AgreeAt};
 ghost use Rattle.flush_log.specs.Segments.{HasSegments};
 ghost use Rattle.flush_log.specs.Slot.{is_open};
-ghost use Rattle.flush_log.specs.declared.text.Text.TheVariants.{Flush, Upgrade};
+ghost use Rattle.flush_log.specs.declared.text.CommitKind.TheVariants.{Flush, Upgrade};
 ghost use Rattle.recovery.specs.InStep.{KeepsLogged, IsStore, IsStoreOf};
 ghost use Rattle.recovery.specs.LookedAt.{IsInSlot, IsLookedAt};
 ghost use Rattle.recovery.specs.StoreOfDisk.{first_store, store_of_disk};
@@ -39,8 +39,8 @@ pub fn what_was_flushed_is_what_is_read()
 pub fn a_crash_in_a_flush_leaves_the_store_before_or_after()
     ensures hidden { (s : Settings) (st now : Store) (file bytes c : Bytes) → IsStoreOf s st file →
         HasFrames s (Flush st.version) st.tree →
-        flush_text st.version st.tree ≢ [] → after_flush s st file ≡ Ok (now, bytes) →
-        IsUncommitted s (suc st.sequence) (spans s st.tail (flush_text st.version st.tree)) file c →
+        flush_frames st.version st.tree ≢ [] → after_flush s st file ≡ Ok (now, bytes) →
+        IsUncommitted s (suc st.sequence) (spans s st.tail (flush_frames st.version st.tree)) file c →
         store_of_disk c ≡ store_of_disk file }
     ensures calls { (s : Settings) (st now : Store) (file bytes c : Bytes) → IsStoreOf s st file →
         HasFrames s (Flush st.version) st.tree →
@@ -66,7 +66,7 @@ pub fn what_was_upgraded_is_what_is_read()
 pub fn a_crash_in_an_upgrade_leaves_the_store_before_or_after()
     ensures hidden { (s : Settings) (st now : Store) (file bytes c : Bytes) → IsStoreOf s st file →
         HasFrames s Upgrade st.tree → after_upgrade s st file ≡ Ok (now, bytes) →
-        IsUncommitted s (suc st.sequence) (spans s st.tail (upgrade_text st.tree)) file c →
+        IsUncommitted s (suc st.sequence) (spans s st.tail (upgrade_frames st.tree)) file c →
         store_of_disk c ≡ store_of_disk file }
     ensures calls { (s : Settings) (st now : Store) (file bytes c : Bytes) → IsStoreOf s st file →
         HasFrames s Upgrade st.tree →

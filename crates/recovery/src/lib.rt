@@ -1,6 +1,6 @@
 //! The store that the bytes of a disk encode: its pages, from their frames, or the single fault of the bytes; and when
 //! a store in memory is in step with its disk. `recover` reads the settings and the slot (`read_disk`) and the log,
-//! segment by segment (`read_log`, `scan_segment`), gathers the frames by page (`log_so_far`, `gather`), builds the
+//! segment by segment (`read_log`, `scan_segment`), gathers the frames by page (`partial_log`, `gather`), builds the
 //! pages (`rebuild`), and makes a tree of them, which it verifies (`build_tree`). A clean reads the log by the same
 //! `read_log`.
 //!
@@ -14,8 +14,8 @@ mod build_tree;
 mod gather;
 pub mod laws;
 mod log_reading;
-mod log_so_far;
 mod page_parts;
+mod partial_log;
 mod read_bytes;
 mod read_disk;
 mod rebuild;

@@ -7,13 +7,13 @@ ghost use Rattle.flush_log.specs.Disk.{Kept, OnlyRead, CountsNoOther};
 ghost use Rattle.flush_log.specs.Ends.{AreEnds};
 ghost use Rattle.flush_log.specs.Reading.{Found, read_earlier as earlier_segments, log_between};
 ghost use Rattle.flush_log.specs.Segments.{segments_begin, disk_size, last_segment, bytes_in_use};
-ghost use Rattle.recovery.specs.Gathered.{AreGathered, IsSoFar};
+ghost use Rattle.recovery.specs.Gathered.{AreGathered, IsPartialLog};
 ghost use Rattle.recovery.specs.Recovered.{IsReadOf, IsLate};
 ghost use Rattle.recovery.specs.Scan.{held_segment, scanned_after};
 ghost use Rattle.recovery.specs.declared.gather.Wanted as declared;
 
 use crate::gather::{Gathering, Wanted};
-use crate::log_so_far::LogSoFar;
+use crate::partial_log::PartialLog;
 use crate::read_bytes::read;
 use crate::scan_segment::{End, Segment};
 use crew::Crew;
@@ -143,17 +143,17 @@ fn read_earlier<D: Disk>(
     format: &Format,
     ends: &LogEnds,
     buffer: &mut Vec<u8>,
-    so_far: &mut LogSoFar,
+    so_far: &mut PartialLog,
 ) -> Result<(), Fault>
     requires checked { first_bad_field format.now.settings ≡ None }
     requires within { disk_size format.now.settings ≤ (D.view disk.old).size }
     requires ends { AreEnds format.now.settings ends.now }
     requires room { format.now.settings.seg_size ≤ length buffer.old.items }
     ensures read { (w : declared.Wanted) (file : Bytes) → IsReadOf (D.view disk.old) file →
-        IsSoFar w so_far.old.gathering so_far.old.fault (Ok []) →
+        IsPartialLog w so_far.old.gathering so_far.old.fault (Ok []) →
         (now : Bytes) × IsReadOf (D.view disk.new) now
         × (take segments_begin now ≡ take segments_begin file)
-        × OnOk result (IsSoFar w so_far.new.gathering so_far.new.fault (earlier_segments format.now
+        × OnOk result (IsPartialLog w so_far.new.gathering so_far.new.fault (earlier_segments format.now
         now ends.now.head (last_segment format.now.settings ends.now.tail - ends.now.head))) }
     ensures room { length buffer.new.items ≡ length buffer.old.items }
     ensures err { IfErr result (IsLate (D.failed disk.old) (D.failed disk.new)) }
@@ -185,17 +185,17 @@ fn read_segments<D: Disk>(
     format: &Format,
     ends: &LogEnds,
     buffer: &mut Vec<u8>,
-    so_far: &mut LogSoFar,
+    so_far: &mut PartialLog,
 ) -> Result<(), Fault>
     requires checked { first_bad_field format.now.settings ≡ None }
     requires within { disk_size format.now.settings ≤ (D.view disk.old).size }
     requires ends { AreEnds format.now.settings ends.now }
     requires room { format.now.settings.seg_size ≤ length buffer.old.items }
     ensures read { (w : declared.Wanted) (file : Bytes) → IsReadOf (D.view disk.old) file →
-        IsSoFar w so_far.old.gathering so_far.old.fault (Ok []) →
+        IsPartialLog w so_far.old.gathering so_far.old.fault (Ok []) →
         (now : Bytes) × IsReadOf (D.view disk.new) now
         × (take segments_begin now ≡ take segments_begin file)
-        × OnOk result (IsSoFar w so_far.new.gathering so_far.new.fault
+        × OnOk result (IsPartialLog w so_far.new.gathering so_far.new.fault
         (log_between format.now now ends.now.head ends.now.tail)) }
     ensures err { IfErr result (IsLate (D.failed disk.old) (D.failed disk.new)) }
     ensures kept { Kept (D.view disk.old) (D.view disk.new) }
@@ -244,7 +244,7 @@ pub fn read_log<D: Disk>(
     ensures counted { OnOk result (D.failed disk.new ≡ D.failed disk.old) }
     ensures uncounted { CountsNoOther result (D.failed disk.old) (D.failed disk.new) }
 {
-    let mut so_far = LogSoFar::new(alloc, wanted);
+    let mut so_far = PartialLog::new(alloc, wanted);
     let at_once = segments_at_once(format, ends);
     let mut buffer = Vec::new(alloc);
     buffer.resize(at_once * format.settings.seg_size as usize, 0)?;

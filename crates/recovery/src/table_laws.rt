@@ -10,7 +10,7 @@ ghost use Rattle.mapping.specs.Proper.{IsProper};
 ghost use Rattle.mapping.specs.Table.{pids_in_use_or_old};
 ghost use Rattle.mapping.specs.Tree.{Tree, page_at, logged_of};
 ghost use Rattle.mapping.specs.TreeInMemory.{TreeInMemory, AreAllHome, tree_of};
-ghost use Rattle.flush_log.specs.FlushText.{spelling_of, lacking, pids_to_write, flush_text, flushed};
+ghost use Rattle.flush_log.specs.FlushText.{encoding_of, lacking, pids_to_write, flush_frames, flushed};
 
 /// If no page is checked out, a flush visits the pids that the table iterates over. It has nothing to write if and only
 /// if the log lacks nothing of any of them.
@@ -18,8 +18,8 @@ pub fn a_flush_goes_over_the_pids_that_the_table_knows()
     ensures pids { (t : TreeInMemory) → AreAllHome t →
         pids_to_write (tree_of t) ≡ pids_in_use_or_old t.table }
     ensures nothing { (version : Version) (t : Tree) →
-        (flush_text version t ≡ []) ↔
-        AllByRecursion (λ pid. lacking (spelling_of version) (page_at t.pages pid) (logged_of t pid)
+        (flush_frames version t ≡ []) ↔
+        AllByRecursion (λ pid. lacking (encoding_of version) (page_at t.pages pid) (logged_of t pid)
         ≡ []) (pids_to_write t) }
 {}
 

@@ -14,13 +14,13 @@ use Rattle.keys.specs.CommandKey.{is_ranged, is_scan, is_wipe}
 use Rattle.keys.specs.Footprint.{Joining, Alone, RowsUpTo, Summed, joining_of, is_of_rows, is_of_counts}
 use Rattle.keys.specs.Lists.{flat}
 use Rattle.keys.specs.Places.{is_some_that, is_scan_at, is_wipe_at, is_ranged_at}
-use Rattle.keys.specs.Woven.{without_rows, woven}
+use Rattle.keys.specs.Woven.{piece_of_empty_scan, woven}
 use Rattle.keys.specs.declared.command.Command.{Command}
 use Rattle.keys.specs.declared.command.Command.TheVariants.{Scan, Wipe}
 use Rattle.keys.specs.declared.command.Reply.{Reply}
 use Rattle.keys.specs.declared.command.Reply.TheVariants.{Missing, Rows, Wiped}
 use Rattle.keys.specs.declared.piece.Piece.{Piece}
-use Rattle.keys.specs.declared.pieces.Rowless.{Rowless}
+use Rattle.keys.specs.declared.pieces.EmptyScan.{EmptyScan}
 use Rattle.keys.proofs.Weaving.{put_in}
 use Rattle.replies.specs.ByPlace.{pieces_at, rows_of, is_rows, count_of, is_count, most_counted, lone, joined_by, joined_replies, joined_replies_at, reply_at, IsPlaceOf, AreAnswers, limit_in, limit_of, limit_by, blank_in, blank_of, with_rows, with_count, with_answer, with_pieces}
 
@@ -59,11 +59,11 @@ min_twice n m most = omega arith
 
 -- ---- places of pieces without rows
 
-pub rowless-rest : (n : ℕ) (r : Rowless) (left rest : List Rowless) → left ≡ r ∷ rest → All (λ q. q.place < n) left → All (λ q. q.place < n) rest
-rowless-rest n r left rest e h = All-rest (λ q. q.place < n) r rest left e h
+pub empty_scans-rest : (n : ℕ) (r : EmptyScan) (left rest : List EmptyScan) → left ≡ r ∷ rest → All (λ q. q.place < n) left → All (λ q. q.place < n) rest
+empty_scans-rest n r left rest e h = All-rest (λ q. q.place < n) r rest left e h
 
-pub rowless-first : (n : ℕ) (r : Rowless) (left rest : List Rowless) → left ≡ r ∷ rest → All (λ q. q.place < n) left → r.place < n
-rowless-first n r left rest e h = All-head (λ q. q.place < n) r rest (subst (All (λ q. q.place < n)) e h)
+pub empty_scans-first : (n : ℕ) (r : EmptyScan) (left rest : List EmptyScan) → left ≡ r ∷ rest → All (λ q. q.place < n) left → r.place < n
+empty_scans-first n r left rest e h = All-head (λ q. q.place < n) r rest (subst (All (λ q. q.place < n)) e h)
 
 -- ---- one piece more
 
@@ -95,11 +95,11 @@ module _ {A : Type 0} where
       let put : new ≡ with_answer (limit_by (slice_get cs q.place)) (get_or rs q.place q.reply) q.reply = made ∙ ap (λ (n : ℕ). with_answer n (get_or rs q.place old) q.reply) (sym limit) ∙ ap (λ (at : Reply A). with_answer (limit_by (slice_get cs q.place)) at q.reply) (sym stood) in
       ap (λ (r : Reply A). with_pieces cs rest (set rs q.place r)) put ∙ subst (λ (ps : List (Piece A)). with_pieces cs ps rs ≡ end) e h
 
-  pub with_pieces-without_rows : (cs : List (Command A)) (r : Rowless) (left rest : List Rowless) (rs end : List (Reply A)) (c : Command A) (old new : Reply A) (limit : ℕ) → left ≡ r ∷ rest
-      → with_pieces cs (map without_rows left) rs ≡ end → r.place < length cs → r.place < length rs → c ≡ get_or cs r.place c → limit ≡ limit_of c → new ≡ with_rows limit (get_or rs r.place old) []
-      → with_pieces cs (map without_rows rest) (set rs r.place new) ≡ end
-  with_pieces-without_rows cs r left rest rs end c old new limit e h within room is l made =
-      with_pieces-rest cs (without_rows r) (map without_rows left) (map without_rows rest) rs end c old new (ap (map without_rows) e) h within room is (made ∙ ap (λ (n : ℕ). with_rows n (get_or rs r.place old) []) l)
+  pub with_pieces-piece_of_empty_scan : (cs : List (Command A)) (r : EmptyScan) (left rest : List EmptyScan) (rs end : List (Reply A)) (c : Command A) (old new : Reply A) (limit : ℕ) → left ≡ r ∷ rest
+      → with_pieces cs (map piece_of_empty_scan left) rs ≡ end → r.place < length cs → r.place < length rs → c ≡ get_or cs r.place c → limit ≡ limit_of c → new ≡ with_rows limit (get_or rs r.place old) []
+      → with_pieces cs (map piece_of_empty_scan rest) (set rs r.place new) ≡ end
+  with_pieces-piece_of_empty_scan cs r left rest rs end c old new limit e h within room is l made =
+      with_pieces-rest cs (piece_of_empty_scan r) (map piece_of_empty_scan left) (map piece_of_empty_scan rest) rs end c old new (ap (map piece_of_empty_scan) e) h within room is (made ∙ ap (λ (n : ℕ). with_rows n (get_or rs r.place old) []) l)
 
   -- ---- the pieces of a page, in two parts
 
@@ -181,59 +181,59 @@ module _ {A : Type 0} where
   last_of limit (Some at) [] = refl
   last_of limit (Some at) (r ∷ rs) = ap (λ (x : Reply A). added limit (Some x) rs) (later limit at r) ∙ last_of limit (Some (with_answer limit at r)) rs
 
-  last_by : (b : Bool) (limit : ℕ) (o : Option (Reply A)) (r : Rowless) (qs : List (Piece A))
-      → added limit o (replies_of (cond b (without_rows r ∷ qs) qs)) ≡ added limit o (replies_of (qs ++ cond b (without_rows r ∷ []) []))
-  last_by true limit o r qs = last_of limit o (replies_of qs) ∙ ap (added limit o) (sym (map-append (λ (p : Piece A). p.reply) qs (without_rows {A = A} r ∷ [])))
+  last_by : (b : Bool) (limit : ℕ) (o : Option (Reply A)) (r : EmptyScan) (qs : List (Piece A))
+      → added limit o (replies_of (cond b (piece_of_empty_scan r ∷ qs) qs)) ≡ added limit o (replies_of (qs ++ cond b (piece_of_empty_scan r ∷ []) []))
+  last_by true limit o r qs = last_of limit o (replies_of qs) ∙ ap (added limit o) (sym (map-append (λ (p : Piece A). p.reply) qs (piece_of_empty_scan {A = A} r ∷ [])))
   last_by false limit o r qs = ap (λ (ps : List (Piece A)). added limit o (replies_of ps)) (sym (append-nil qs))
 
-  last_at : (cs : List (Command A)) (r : Rowless) (qs : List (Piece A)) (rs : List (Reply A)) (i : ℕ) → i < length rs
-      → slice_get (with_pieces cs (without_rows r ∷ qs) rs) i ≡ slice_get (with_pieces cs (qs ++ without_rows r ∷ []) rs) i
+  last_at : (cs : List (Command A)) (r : EmptyScan) (qs : List (Piece A)) (rs : List (Reply A)) (i : ℕ) → i < length rs
+      → slice_get (with_pieces cs (piece_of_empty_scan r ∷ qs) rs) i ≡ slice_get (with_pieces cs (qs ++ piece_of_empty_scan r ∷ []) rs) i
   last_at cs r qs rs i h =
-      with_pieces-get cs (without_rows r ∷ qs) rs i h
+      with_pieces-get cs (piece_of_empty_scan r ∷ qs) rs i h
       ∙ last_by (r.place == i) (limit_by (slice_get cs i)) (slice_get rs i) r (pieces_at qs i)
-      ∙ ap (λ (ps : List (Piece A)). added (limit_by (slice_get cs i)) (slice_get rs i) (replies_of ps)) (sym (filter-append (λ (p : Piece A). p.place == i) qs (without_rows {A = A} r ∷ [])))
-      ∙ sym (with_pieces-get cs (qs ++ without_rows r ∷ []) rs i h)
+      ∙ ap (λ (ps : List (Piece A)). added (limit_by (slice_get cs i)) (slice_get rs i) (replies_of ps)) (sym (filter-append (λ (p : Piece A). p.place == i) qs (piece_of_empty_scan {A = A} r ∷ [])))
+      ∙ sym (with_pieces-get cs (qs ++ piece_of_empty_scan r ∷ []) rs i h)
 
   -- an answer without rows may be added after all others
-  last : (cs : List (Command A)) (r : Rowless) (qs : List (Piece A)) (rs : List (Reply A)) → with_pieces cs (without_rows r ∷ qs) rs ≡ with_pieces cs (without_rows r ∷ []) (with_pieces cs qs rs)
+  last : (cs : List (Command A)) (r : EmptyScan) (qs : List (Piece A)) (rs : List (Reply A)) → with_pieces cs (piece_of_empty_scan r ∷ qs) rs ≡ with_pieces cs (piece_of_empty_scan r ∷ []) (with_pieces cs qs rs)
   last cs r qs rs =
-      let first = length-with_pieces cs (without_rows r ∷ qs) rs in
-      let end = length-with_pieces cs (qs ++ without_rows r ∷ []) rs in
+      let first = length-with_pieces cs (piece_of_empty_scan r ∷ qs) rs in
+      let end = length-with_pieces cs (qs ++ piece_of_empty_scan r ∷ []) rs in
       same_at_each _ _ (λ i. elim ((slice_get_cases rs i).1) [
         | inl w ↦ last_at cs r qs rs i w.1
-        | inr w ↦ slice_get_past (with_pieces cs (without_rows r ∷ qs) rs) i (omega (arith, first, w.0)) ∙ sym (slice_get_past (with_pieces cs (qs ++ without_rows r ∷ []) rs) i (omega (arith, end, w.0)))
+        | inr w ↦ slice_get_past (with_pieces cs (piece_of_empty_scan r ∷ qs) rs) i (omega (arith, first, w.0)) ∙ sym (slice_get_past (with_pieces cs (qs ++ piece_of_empty_scan r ∷ []) rs) i (omega (arith, end, w.0)))
       ])
-      ∙ with_pieces-append cs qs (without_rows r ∷ []) rs
+      ∙ with_pieces-append cs qs (piece_of_empty_scan r ∷ []) rs
 
-  put_last : (cs : List (Command A)) (ps : List (Piece A)) (r : Rowless) (rs : List (Reply A)) → with_pieces cs (put_in ps r) rs ≡ with_pieces cs (without_rows r ∷ []) (with_pieces cs ps rs)
+  put_last : (cs : List (Command A)) (ps : List (Piece A)) (r : EmptyScan) (rs : List (Reply A)) → with_pieces cs (put_in ps r) rs ≡ with_pieces cs (piece_of_empty_scan r ∷ []) (with_pieces cs ps rs)
   put_last cs ps r rs =
       let front = take r.before ps in
       let back = drop r.before ps in
-      with_pieces-append cs front (without_rows {A = A} r ∷ back) rs
+      with_pieces-append cs front (piece_of_empty_scan {A = A} r ∷ back) rs
       ∙ last cs r back (with_pieces cs front rs)
-      ∙ ap (with_pieces cs (without_rows r ∷ [])) (sym (with_pieces-append cs front back rs) ∙ ap (λ (qs : List (Piece A)). with_pieces cs qs rs) (take-append-drop r.before ps))
+      ∙ ap (with_pieces cs (piece_of_empty_scan r ∷ [])) (sym (with_pieces-append cs front back rs) ∙ ap (λ (qs : List (Piece A)). with_pieces cs qs rs) (take-append-drop r.before ps))
 
-  pub with_pieces-woven : (cs : List (Command A)) (ps : List (Piece A)) (ls : List Rowless) (rs : List (Reply A)) → with_pieces cs (woven ps ls) rs ≡ with_pieces cs (map without_rows ls) (with_pieces cs ps rs)
+  pub with_pieces-woven : (cs : List (Command A)) (ps : List (Piece A)) (ls : List EmptyScan) (rs : List (Reply A)) → with_pieces cs (woven ps ls) rs ≡ with_pieces cs (map piece_of_empty_scan ls) (with_pieces cs ps rs)
   with_pieces-woven cs ps [] rs = refl
-  with_pieces-woven cs ps (r ∷ ls) rs = with_pieces-woven cs (put_in ps r) ls rs ∙ ap (with_pieces cs (map without_rows ls)) (put_last cs ps r rs)
+  with_pieces-woven cs ps (r ∷ ls) rs = with_pieces-woven cs (put_in ps r) ls rs ∙ ap (with_pieces cs (map piece_of_empty_scan ls)) (put_last cs ps r rs)
 
-  within-put_in : (cs : List (Command A)) (ps : List (Piece A)) (r : Rowless) → All (IsPlaceOf cs) (put_in ps r) → All (IsPlaceOf cs) ps × r.place < length cs
+  within-put_in : (cs : List (Command A)) (ps : List (Piece A)) (r : EmptyScan) → All (IsPlaceOf cs) (put_in ps r) → All (IsPlaceOf cs) ps × r.place < length cs
   within-put_in cs ps r h =
       let front = take r.before ps in
       let back = drop r.before ps in
-      let first = within-front cs (put_in ps r) front (without_rows {A = A} r ∷ back) refl h in
-      let rest = within-back cs (put_in ps r) front (without_rows {A = A} r ∷ back) refl h in
-      (subst (All (IsPlaceOf cs)) (take-append-drop r.before ps) (All-append (IsPlaceOf cs) front back first (All-tail (IsPlaceOf cs) (without_rows {A = A} r) back rest)), All-head (IsPlaceOf cs) (without_rows {A = A} r) back rest)
+      let first = within-front cs (put_in ps r) front (piece_of_empty_scan {A = A} r ∷ back) refl h in
+      let rest = within-back cs (put_in ps r) front (piece_of_empty_scan {A = A} r ∷ back) refl h in
+      (subst (All (IsPlaceOf cs)) (take-append-drop r.before ps) (All-append (IsPlaceOf cs) front back first (All-tail (IsPlaceOf cs) (piece_of_empty_scan {A = A} r) back rest)), All-head (IsPlaceOf cs) (piece_of_empty_scan {A = A} r) back rest)
 
   -- the places of both parts are within the batch
-  pub within-woven : (cs : List (Command A)) (ps : List (Piece A)) (ls : List Rowless) → All (IsPlaceOf cs) (woven ps ls) → All (IsPlaceOf cs) ps × All (λ r. r.place < length cs) ls
+  pub within-woven : (cs : List (Command A)) (ps : List (Piece A)) (ls : List EmptyScan) → All (IsPlaceOf cs) (woven ps ls) → All (IsPlaceOf cs) ps × All (λ r. r.place < length cs) ls
   within-woven cs ps [] h = (h, All-nil (λ r. r.place < length cs))
   within-woven cs ps (r ∷ ls) h =
       let rest = within-woven cs (put_in ps r) ls h in
       let one = within-put_in cs ps r rest.0 in
       (one.0, All-cons (λ r. r.place < length cs) r ls one.1 rest.1)
 
-  module _ (cs : List (Command A)) (ps front back : List (Piece A)) (ls : List Rowless) (parts : ps ≡ woven (front ++ back) ls) where
+  module _ (cs : List (Command A)) (ps front back : List (Piece A)) (ls : List EmptyScan) (parts : ps ≡ woven (front ++ back) ls) where
     both_within : All (IsPlaceOf cs) ps → All (IsPlaceOf cs) (front ++ back) × All (λ r. r.place < length cs) ls
     both_within h = within-woven cs (front ++ back) ls (subst (All (IsPlaceOf cs)) parts h)
 
@@ -246,9 +246,9 @@ module _ {A : Type 0} where
     pub rowless_within : All (IsPlaceOf cs) ps → All (λ r. r.place < length cs) ls
     rowless_within h = (both_within h).1
 
-    pub with_pieces-all : (rs one two end : List (Reply A)) → one ≡ with_pieces cs front rs → two ≡ with_pieces cs back one → end ≡ with_pieces cs (map without_rows ls) two → end ≡ with_pieces cs ps rs
+    pub with_pieces-all : (rs one two end : List (Reply A)) → one ≡ with_pieces cs front rs → two ≡ with_pieces cs back one → end ≡ with_pieces cs (map piece_of_empty_scan ls) two → end ≡ with_pieces cs ps rs
     with_pieces-all rs one two end e f h =
-        h ∙ ap (with_pieces cs (map without_rows ls)) (with_pieces-parts cs (front ++ back) front back refl rs one two e f)
+        h ∙ ap (with_pieces cs (map piece_of_empty_scan ls)) (with_pieces-parts cs (front ++ back) front back refl rs one two e f)
         ∙ sym (with_pieces-woven cs (front ++ back) ls rs) ∙ ap (λ (qs : List (Piece A)). with_pieces cs qs rs) (sym parts)
 
     pub count-two : (rs one two : List (Reply A)) → one ≡ with_pieces cs front rs → two ≡ with_pieces cs back one → length two ≡ length rs

@@ -8,12 +8,12 @@ pub mod laws;
 ghost use Rattle.std.specs.Prelude.{◌≡◌, ◌<◌, [], map, take, length, IfOk, OnOk};
 ghost use Rattle.std.specs.List.{All};
 ghost use Rattle.std.specs.Option.{option_to_list};
-ghost use Rattle.keys.specs.Woven.{without_rows};
+ghost use Rattle.keys.specs.Woven.{piece_of_empty_scan};
 ghost use Rattle.keys.specs.declared.command.Reply.TheVariants.{Rows};
 ghost use Rattle.replies.specs.ByPlace.{IsPlaceOf, blank_of, limit_of, with_rows, with_count, with_answer, with_pieces};
 
 pub use crate::in_turn::{LentMap, execute_in_turn};
-use keys::{Command, Piece, Pieces, Reply, RowList, Rowless};
+use keys::{Command, EmptyScan, Piece, Pieces, Reply, RowList};
 use std::alloc::{AllocError, Global};
 
 /// Returns, for each command of a batch, a reply to which answers are to be added: no rows for a scan, a count of zero
@@ -56,10 +56,10 @@ pub fn add_answers(
     requires within { All (IsPlaceOf commands.now) pieces }
     ensures { OnOk result (replies.new ≡ with_pieces commands.now pieces replies.old) }
 {
-    let (first, rest, rowless) = pieces.into_parts();
+    let (first, rest, empty_scans) = pieces.into_parts();
     add_first(replies, commands, first)?;
     add_all(replies, commands, rest)?;
-    add_rowless(replies, commands, rowless);
+    add_empty_scans(replies, commands, empty_scans);
     Ok(())
 }
 
@@ -100,12 +100,16 @@ fn add_all(
 }
 
 // Adds these answers of scans without rows to the replies at their places.
-fn add_rowless(replies: &mut [Reply<Global>], commands: &[Command<Global>], rowless: Vec<Rowless>)
+fn add_empty_scans(
+    replies: &mut [Reply<Global>],
+    commands: &[Command<Global>],
+    empty_scans: Vec<EmptyScan>,
+)
     requires count { length replies.old ≡ length commands.now }
-    requires within { All (λ r. r.place < length commands.now) rowless.items }
-    ensures { replies.new ≡ with_pieces commands.now (map without_rows rowless.items) replies.old }
+    requires within { All (λ r. r.place < length commands.now) empty_scans.items }
+    ensures { replies.new ≡ with_pieces commands.now (map piece_of_empty_scan empty_scans.items) replies.old }
 {
-    for Rowless { place, before: _ } in rowless {
+    for EmptyScan { place, before: _ } in empty_scans {
         let place = place as usize;
         cut(&mut replies[place], limit_of(&commands[place]));
     }

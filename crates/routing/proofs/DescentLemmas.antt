@@ -25,7 +25,7 @@ use Rattle.mapping.specs.Tree.{Tree, page_at}
 use Rattle.mapping.specs.Levels as levels
 use Rattle.mapping.specs.Levels.{Placed, Levels, joined, name, names, as_index, leaf_at, index_at, levels_below, levels_of, first_pid, top_pid}
 use Rattle.mapping.specs.Proper.{next_low, IsTile, Tiled, Stacked, AreLevels, HasIndexPages, HoldsLevels}
-use Rattle.mapping.proofs.TileLemmas.{Names, next_low-parents}
+use Rattle.mapping.proofs.TileLemmas.{Separators, next_low-parents}
 use Rattle.mapping.proofs.LevelLemmas.{values_of-names, index_pages_found}
 use Rattle.routing.specs.BatchKeys.{key_or_empty, key_at}
 use Rattle.routing.specs.SortedPlaces.{order_of_places, AreInKeyOrder, reaches_page, reaches, reaches_at}
@@ -78,7 +78,7 @@ before_high : (end : Option (List ℕ)) (k f : List ℕ) → IsBefore end f → 
 before_high None k f h b = refl
 before_high (Some hi) k f h b = less_is_below k hi (total.trans k f hi (below_is_less k f b) h)
 
-pub second_before : (end : Option (List ℕ)) (e f : List ℕ × ℕ) (es : Names) → AreBefore end (keys_of (e ∷ f ∷ es)) → IsBefore end f.0 × AreBefore end (keys_of (f ∷ es))
+pub second_before : (end : Option (List ℕ)) (e f : List ℕ × ℕ) (es : Separators) → AreBefore end (keys_of (e ∷ f ∷ es)) → IsBefore end f.0 × AreBefore end (keys_of (f ∷ es))
 second_before None e f es a = (tt, tt)
 second_before (Some hi) e f es a = (below_is_less f.0 hi a.1.0, a.1)
 
@@ -94,7 +94,7 @@ before_low : (hi : Option (List ℕ)) (low e : List ℕ) → is_below e low ≡ 
 before_low None low e n h = refl
 before_low (Some hi) low e n h = less_is_below low hi (low_through low e hi n (below_is_less e hi h))
 
-pub entry_before : (end : Option (List ℕ)) (e : List ℕ × ℕ) (es : Names) → AreBefore end (keys_of (e ∷ es)) → IsBefore end e.0
+pub entry_before : (end : Option (List ℕ)) (e : List ℕ × ℕ) (es : Separators) → AreBefore end (keys_of (e ∷ es)) → IsBefore end e.0
 entry_before None e es a = tt
 entry_before (Some hi) e es a = below_is_less e.0 hi a.0
 
@@ -117,7 +117,7 @@ module _ {A : Type 0} (cs : List (Command A)) (low : List ℕ) (end : Option (Li
   reaches_child e (Some c) n m h = span_reaches_child e (span_of c) n m h
 
   -- what reaches a child reaches its page or begins in it
-  pub reaching_narrowed : (e : List ℕ × ℕ) (es : Names) (ps : List ℕ) → AreFrom low (keys_of (e ∷ es)) → AreBefore end (keys_of (e ∷ es)) → filter (reaches_at cs e.0) ps ≡ filter (reaches_at cs e.0) (filter gets ps)
+  pub reaching_narrowed : (e : List ℕ × ℕ) (es : Separators) (ps : List ℕ) → AreFrom low (keys_of (e ∷ es)) → AreBefore end (keys_of (e ∷ es)) → filter (reaches_at cs e.0) ps ≡ filter (reaches_at cs e.0) (filter gets ps)
   reaching_narrowed e es ps a b =
       filter_twice (reaches_at cs e.0) gets (reaches_at cs e.0)
       (λ q. only_of (reaches_at cs e.0 q) (gets q) (reaches_child e.0 (slice_get cs q) a.0 (entry_before end e es b))) ps
@@ -131,7 +131,7 @@ module _ {A : Type 0} (cs : List (Command A)) (low : List ℕ) (end : Option (Li
       filter_twice (is_in_range cs e.0 end) gets (is_in_range cs e.0 None)
       (λ q. narrowed_last (is_below (key_at cs q) e.0) (is_below (key_at cs q) low) (is_before end (key_at cs q)) (reaches_at cs low q) (from_low (key_at cs q) low e.0 a.0) (child_above e.0 q a.0)) ps
 
-  pub own_narrowed : (e f : List ℕ × ℕ) (es : Names) (ps : List ℕ) → AreFrom low (keys_of (e ∷ f ∷ es)) → IsBefore end f.0 → filter (is_in_range cs e.0 (Some f.0)) ps ≡ filter (is_in_range cs e.0 (Some f.0)) (filter gets ps)
+  pub own_narrowed : (e f : List ℕ × ℕ) (es : Separators) (ps : List ℕ) → AreFrom low (keys_of (e ∷ f ∷ es)) → IsBefore end f.0 → filter (is_in_range cs e.0 (Some f.0)) ps ≡ filter (is_in_range cs e.0 (Some f.0)) (filter gets ps)
   own_narrowed e f es ps a l =
       filter_twice (is_in_range cs e.0 (Some f.0)) gets (is_in_range cs e.0 (Some f.0))
       (λ q. narrowed (is_below (key_at cs q) e.0) (is_below (key_at cs q) low) (is_below (key_at cs q) f.0) (is_before end (key_at cs q)) (reaches_at cs low q) (from_low (key_at cs q) low e.0 a.0) (before_high end (key_at cs q) f.0 l) (child_above e.0 q a.0)) ps
@@ -161,7 +161,7 @@ module _ {A : Type 0} (cs : List (Command A)) (low : List ℕ) where
   got = gets cs low None
 
   -- the children of a page without an end get the same of all places as of the page's own
-  pub shares-narrowed : (es : Names) (ps : List ℕ) → AreFrom low (keys_of es) → shares cs ps (children es None) ≡ shares cs (filter got ps) (children es None)
+  pub shares-narrowed : (es : Separators) (ps : List ℕ) → AreFrom low (keys_of es) → shares cs ps (children es None) ≡ shares cs (filter got ps) (children es None)
   shares-narrowed [] ps a = refl
   shares-narrowed (e ∷ []) ps a =
       let qs = filter got ps in
@@ -238,7 +238,7 @@ module _ {A : Type 0} (cs : List (Command A)) (pages : List (ℕ × PageOfKind))
 -- ---- the levels of a tree, from the root down
 
 -- the names of the pages a number of levels below the root
-abbrev pub names_at : List (ℕ × PageOfKind) → ℕ → ℕ → Names
+abbrev pub names_at : List (ℕ × PageOfKind) → ℕ → ℕ → Separators
 names_at pages root zero = ([], root) ∷ []
 names_at pages root (suc i) = joined (map (index_at pages) (values_of (names_at pages root i)))
 
@@ -256,7 +256,7 @@ module _ (pages : List (ℕ × PageOfKind)) where
   names-level level [] h o f = first_name level o f
   names-level level (up ∷ ups) h o f =
       let above : next_low up None ≡ Some [] = sym (next_low-parents up level o.0.linked o.0.headed) ∙ f in
-      ap (λ (ns : Names). joined (map (index_at pages) (values_of ns))) (names-level up ups h.1 o.1 above)
+      ap (λ (ns : Separators). joined (map (index_at pages) (values_of ns))) (names-level up ups h.1 o.1 above)
       ∙ ap (λ (ns : List ℕ). joined (map (index_at pages) ns)) (values_of-names up)
       ∙ ap (λ (ps : List (Placed ℕ)). joined ps) (index_pages_found pages up h.0)
       ∙ o.0.linked

@@ -7,7 +7,7 @@ use Rattle.std.specs.Map.{keys_of}
 use Rattle.std.proofs.lemmas.Bool.{and_parts}
 use Rattle.std.proofs.lemmas.List.Elements.{filter-append}
 use Rattle.std.proofs.lemmas.List.Kept.{IsStrictlySortedBy-filter}
-use Rattle.keys.specs.Footprint.{Span, One, Range, Deed, Looks, Gives, Takes, span_of, deed_of}
+use Rattle.keys.specs.Footprint.{Span, One, Range, Access, Looks, Gives, Takes, span_of, access_of}
 use Rattle.keys.specs.Places.{is_some_that}
 use Rattle.keys.specs.declared.command.Command.{Command}
 use Rattle.keys.proofs.MapLemmas.{total}
@@ -26,7 +26,7 @@ use Rattle.mapping.specs.Levels as levels
 use Rattle.mapping.specs.Levels.{Placed, joined, name, names, levels_of}
 use Rattle.mapping.specs.Proper.{next_low, IsTile, AreLevels, HoldsLevels}
 use Rattle.mapping.proofs.PidLemmas.{all_among}
-use Rattle.mapping.proofs.TileLemmas.{Names, next_names, rising-tile}
+use Rattle.mapping.proofs.TileLemmas.{Separators, next_names, rising-tile}
 use Rattle.mapping.proofs.Joined.{next_joined}
 use Rattle.routing.specs.BatchKeys.{key_at}
 use Rattle.routing.specs.Idle.{gives_at, covers, clears, empties, empties_at}
@@ -83,13 +83,13 @@ before_covered end low None l h = refl
 before_covered None low (Some hi) l h = absurd (cc)
 before_covered (Some e) low (Some hi) l h = less_is_below low hi (less_through low hi e (less_is_below low e l) (not_true (is_below hi e) h))
 
-clears_any : (end : Option (List ℕ)) (d : Deed) (s : Span) → clears None d s ≡ true → clears end d s ≡ true
+clears_any : (end : Option (List ℕ)) (d : Access) (s : Span) → clears None d s ≡ true → clears end d s ≡ true
 clears_any end Looks s h = absurd (cc)
 clears_any end (Gives v) s h = absurd (cc)
 clears_any end Takes (One k) h = absurd (cc)
 clears_any end Takes (Range lo hi) h = covers_any end hi h
 
-clears_nearer : (end : Option (List ℕ)) (f : List ℕ) (d : Deed) (s : Span) → IsBefore end f → clears end d s ≡ true → clears (Some f) d s ≡ true
+clears_nearer : (end : Option (List ℕ)) (f : List ℕ) (d : Access) (s : Span) → IsBefore end f → clears end d s ≡ true → clears (Some f) d s ≡ true
 clears_nearer end f Looks s l h = absurd (cc)
 clears_nearer end f (Gives v) s l h = absurd (cc)
 clears_nearer end f Takes (One k) l h = absurd (cc)
@@ -99,7 +99,7 @@ reached_by : (b : Bool) (low e lo : List ℕ) → is_below lo low ≡ true → i
 reached_by true low e lo h n c = refl
 reached_by false low e lo h n c = absurd (let l = less_is_below lo e (less_through lo e low h n) in cc)
 
-span_reaches_on : (low : List ℕ) (end : Option (List ℕ)) (e : List ℕ) (d : Deed) (s : Span) → is_below e low ≡ false → IsBefore end e → reaches_page low s ≡ true → clears end d s ≡ true → reaches_page e s ≡ true
+span_reaches_on : (low : List ℕ) (end : Option (List ℕ)) (e : List ℕ) (d : Access) (s : Span) → is_below e low ≡ false → IsBefore end e → reaches_page low s ≡ true → clears end d s ≡ true → reaches_page e s ≡ true
 span_reaches_on low end e Looks s n l r h = absurd (cc)
 span_reaches_on low end e (Gives v) s n l r h = absurd (cc)
 span_reaches_on low end e Takes (One k) n l r h = absurd (cc)
@@ -110,15 +110,15 @@ span_reaches_on low end e Takes (Range lo hi) n l r h =
 module _ {A : Type 0} where
   any_by : (end : Option (List ℕ)) (o : Option (Command A)) → is_some_that (empties None) o ≡ true → is_some_that (empties end) o ≡ true
   any_by end None h = absurd (cc)
-  any_by end (Some c) h = clears_any end (deed_of c) (span_of c) h
+  any_by end (Some c) h = clears_any end (access_of c) (span_of c) h
 
   nearer_by : (end : Option (List ℕ)) (f : List ℕ) (o : Option (Command A)) → IsBefore end f → is_some_that (empties end) o ≡ true → is_some_that (empties (Some f)) o ≡ true
   nearer_by end f None l h = absurd (cc)
-  nearer_by end f (Some c) l h = clears_nearer end f (deed_of c) (span_of c) l h
+  nearer_by end f (Some c) l h = clears_nearer end f (access_of c) (span_of c) l h
 
   on_by : (low : List ℕ) (end : Option (List ℕ)) (e : List ℕ) (o : Option (Command A)) → is_below e low ≡ false → IsBefore end e → is_some_that (reaches low) o ≡ true → is_some_that (empties end) o ≡ true → is_some_that (reaches e) o ≡ true
   on_by low end e None n l r h = absurd (cc)
-  on_by low end e (Some c) n l r h = span_reaches_on low end e (deed_of c) (span_of c) n l r h
+  on_by low end e (Some c) n l r h = span_reaches_on low end e (access_of c) (span_of c) n l r h
 
 -- ---- lists
 
@@ -286,7 +286,7 @@ module _ {A : Type 0} (cs : List (Command A)) (ps : List ℕ) (in_order : AreInK
 
     -- ---- all children
 
-    pub children_shares : (es : Names) → AreFrom up.low (keys_of es) → AreBefore up.end (keys_of es) → AreSharesFor cs ps (children es up.end) (shares cs (all_of s) (children es None))
+    pub children_shares : (es : Separators) → AreFrom up.low (keys_of es) → AreBefore up.end (keys_of es) → AreSharesFor cs ps (children es up.end) (shares cs (all_of s) (children es None))
     children_shares [] a b = AreSharesFor.none
     children_shares (e ∷ []) a b =
         let at : Place = record { pid = e.1; low = e.0; end = up.end } in
@@ -334,7 +334,7 @@ module _ {A : Type 0} (cs : List (Command A)) (ps : List ℕ) (in_order : AreInK
     of_nothing : (g : ℕ → Bool) → filter g (filter (gets cs up.low up.end) ps) ≡ []
     of_nothing g = ap (λ (xs : List ℕ). filter g xs) nothing_got
 
-    nothing_for : (es : Names) → AreFrom up.low (keys_of es) → AreBefore up.end (keys_of es) → AreSharesFor cs ps (children es up.end) []
+    nothing_for : (es : Separators) → AreFrom up.low (keys_of es) → AreBefore up.end (keys_of es) → AreSharesFor cs ps (children es up.end) []
     nothing_for [] a b = AreSharesFor.none
     nothing_for (x ∷ []) a b =
         AreSharesFor.left_out (record { pid = x.1; low = x.0; end = up.end }) (last_narrowed cs up.low up.end x ps a ∙ of_nothing (is_in_range cs x.0 None)) (reaching_narrowed cs up.low up.end x [] ps a b ∙ of_nothing (reaches_at cs x.0)) AreSharesFor.none
@@ -388,7 +388,7 @@ module _ {A : Type 0} (cs : List (Command A)) (ps : List ℕ) (in_order : AreInK
     shares-below [] end ss l a = none_below refl a
     shares-below (p ∷ up) end ss l a =
         let later : IsIndexLevel pages end up = record { held = l.held.1; headed = l.headed.1; tiled = l.tiled.1 } in
-        let es : Names = levels.entries p in
+        let es : Separators = levels.entries p in
         let bts : List Place = children (joined up) end in
         let here = level_by p (next_low up end) (children (names up) end) bts ss (children (names (p ∷ up)) end) l.held.0 l.tiled.0 (places_are p up end) (λ ts r. shares-below up end ts later r) a in
         let places : children es (next_low up end) ++ bts ≡ children (joined (p ∷ up)) end = ap (λ (x : Option (List ℕ)). children es x ++ bts) (sym (next_joined up end l.headed.1)) ∙ sym (children-append es (joined up) end) in
@@ -447,8 +447,8 @@ module _ (t : Tree) (held : HoldsLevels t.pages (levels_of t)) (levels : AreLeve
   abbrev pub AreSharesAt : ℕ → List Share → Type 0
   AreSharesAt i ss = AreSharesFor cs ps (children (names_at t.pages t.root i) None) ss
 
-  by_names : (ns ms : Names) (ss : List Share) → ns ≡ ms → AreSharesFor cs ps (children ns None) ss → AreSharesFor cs ps (children ms None) ss
-  by_names ns ms ss e a = subst (λ (x : Names). AreSharesFor cs ps (children x None) ss) e a
+  by_names : (ns ms : Separators) (ss : List Share) → ns ≡ ms → AreSharesFor cs ps (children ns None) ss → AreSharesFor cs ps (children ms None) ss
+  by_names ns ms ss e a = subst (λ (x : Separators). AreSharesFor cs ps (children x None) ss) e a
 
   abbrev root : Place
   root = record { pid = t.root; low = []; end = None }

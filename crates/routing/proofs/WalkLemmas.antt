@@ -14,7 +14,7 @@ use Rattle.index_page.specs.Children.{Place, children, child_with_end, child_ent
 use Rattle.index_page.proofs.ListLemmas.{all-append, all_apart, all_weaker}
 use Rattle.index_page.proofs.RangeLemmas.{below_is_less, less_is_below, less_through, not_below_lower, not_below_itself, from_first}
 use Rattle.index_page.proofs.ChildLemmas.{within, not_within_below, not_within_after}
-use Rattle.mapping.proofs.TileLemmas.{Names}
+use Rattle.mapping.proofs.TileLemmas.{Separators}
 use Rattle.routing.specs.BatchKeys.{key_at}
 use Rattle.routing.specs.Routes.{has_some}
 use Rattle.routing.specs.SortedPlaces.{AreInKeyOrder, reaches_at}
@@ -29,12 +29,12 @@ use Rattle.routing.proofs.IdleLemmas.{without_idle-nothing, same_idle, some_stay
 -- ---- the children from a key on
 
 -- the entries that aren't below a key, of entries whose keys rise
-abbrev pub from_low : List ℕ → Names → Names
+abbrev pub from_low : List ℕ → Separators → Separators
 from_low low [] = []
 from_low low (e ∷ es) = cond (is_below e.0 low) (from_low low es) (e ∷ es)
 
 -- a key that is the key of an entry
-pub record IsEntry (es : Names) (low : List ℕ) : Type 0 where
+pub record IsEntry (es : Separators) (low : List ℕ) : Type 0 where
   pub some : 0 < length (from_low low es)
   pub first : first_key (from_low low es) ≡ low
 
@@ -51,36 +51,36 @@ from_higher : (b : Bool) (q k low : List ℕ) → is_below q low ≡ b → is_be
 from_higher false q k low e n h = refl
 from_higher true q k low e n h = absurd (let l = less_is_below q k (less_through q k low e n) in cc)
 
-rising_one_of : (b : Bool) (es fs : Names) → IsRising es → IsRising fs → IsRising (cond b es fs)
+rising_one_of : (b : Bool) (es fs : Separators) → IsRising es → IsRising fs → IsRising (cond b es fs)
 rising_one_of true es fs r s = r
 rising_one_of false es fs r s = s
 
-rising_from : (low : List ℕ) (es : Names) → IsRising es → IsRising (from_low low es)
+rising_from : (low : List ℕ) (es : Separators) → IsRising es → IsRising (from_low low es)
 unfolding IsStrictlySortedBy
 rising_from low [] r = r
 rising_from low (e ∷ es) r = rising_one_of (is_below e.0 low) (from_low low es) (e ∷ es) (rising_from low es r.1) r
 
-no_longer_by : (b : Bool) (n : ℕ) (es fs : Names) → length es ≤ n → length fs ≤ n → length (cond b es fs) ≤ n
+no_longer_by : (b : Bool) (n : ℕ) (es fs : Separators) → length es ≤ n → length fs ≤ n → length (cond b es fs) ≤ n
 no_longer_by true n es fs h k = h
 no_longer_by false n es fs h k = k
 
-no_longer : (low : List ℕ) (es : Names) → length (from_low low es) ≤ length es
+no_longer : (low : List ℕ) (es : Separators) → length (from_low low es) ≤ length es
 no_longer low [] = omega arith
 no_longer low (e ∷ es) = let h = no_longer low es in no_longer_by (is_below e.0 low) (length (e ∷ es)) (from_low low es) (e ∷ es) (omega arith) (omega arith)
 
-entry_later : (e : List ℕ × ℕ) (es : Names) (low : List ℕ) → is_below e.0 low ≡ true → IsEntry (e ∷ es) low → IsEntry es low
+entry_later : (e : List ℕ × ℕ) (es : Separators) (low : List ℕ) → is_below e.0 low ≡ true → IsEntry (e ∷ es) low → IsEntry es low
 entry_later e es low b h = record { some = rw b at h.some; first = rw b at h.first }
 
-entry_earlier : (e : List ℕ × ℕ) (es : Names) (low : List ℕ) → is_below e.0 low ≡ true → IsEntry es low → IsEntry (e ∷ es) low
+entry_earlier : (e : List ℕ × ℕ) (es : Separators) (low : List ℕ) → is_below e.0 low ≡ true → IsEntry es low → IsEntry (e ∷ es) low
 entry_earlier e es low b h = record { some = rw b h.some; first = rw b h.first }
 
 -- the first entry isn't above the key of an entry
-first_by : (b : Bool) (f : List ℕ × ℕ) (es : Names) (low : List ℕ) → is_below f.0 low ≡ b → IsEntry (f ∷ es) low → is_below low f.0 ≡ false
+first_by : (b : Bool) (f : List ℕ × ℕ) (es : Separators) (low : List ℕ) → is_below f.0 low ≡ b → IsEntry (f ∷ es) low → is_below low f.0 ≡ false
 first_by true f es low b h = not_below_lower f.0 low (below_is_less f.0 low b)
 first_by false f es low b h = let e : f.0 ≡ low = rw b at h.first in rw (← e) (not_below_itself f.0)
 
 -- the child of a key from an entry on is found among the entries from that one on
-child_by : (b : Bool) (k low : List ℕ) (e f : List ℕ × ℕ) (es : Names) → is_below e.0 low ≡ b → is_below k low ≡ false → IsEntry (e ∷ f ∷ es) low
+child_by : (b : Bool) (k low : List ℕ) (e f : List ℕ × ℕ) (es : Separators) → is_below e.0 low ≡ b → is_below k low ≡ false → IsEntry (e ∷ f ∷ es) low
     → (IsEntry (f ∷ es) low → child_with_end k (f ∷ es) ≡ child_with_end k (from_low low (f ∷ es))) → child_with_end k (e ∷ f ∷ es) ≡ child_with_end k (cond b (from_low low (f ∷ es)) (e ∷ f ∷ es))
 child_by true k low e f es b n h ih =
     let later = entry_later e (f ∷ es) low b h in
@@ -92,26 +92,26 @@ lone_by : (b : Bool) (k low : List ℕ) (e : List ℕ × ℕ) → is_below e.0 l
 lone_by true k low e b h = absurd (let s = (entry_later e [] low b h).some in omega arith)
 lone_by false k low e b h = refl
 
-child_from : (k low : List ℕ) (es : Names) → is_below k low ≡ false → IsEntry es low → child_with_end k es ≡ child_with_end k (from_low low es)
+child_from : (k low : List ℕ) (es : Separators) → is_below k low ≡ false → IsEntry es low → child_with_end k es ≡ child_with_end k (from_low low es)
 child_from k low [] n h = refl
 child_from k low (e ∷ []) n h = lone_by (is_below e.0 low) k low e refl h
 child_from k low (e ∷ f ∷ es) n h = child_by (is_below e.0 low) k low e f es refl n h (child_from k low (f ∷ es) n)
 
-from_twice_by : (b : Bool) (low end : List ℕ) (e : List ℕ × ℕ) (es : Names) → is_below e.0 low ≡ b → order low end ≡ Less → from_low end es ≡ from_low end (from_low low es) → from_low end (e ∷ es) ≡ from_low end (cond b (from_low low es) (e ∷ es))
+from_twice_by : (b : Bool) (low end : List ℕ) (e : List ℕ × ℕ) (es : Separators) → is_below e.0 low ≡ b → order low end ≡ Less → from_low end es ≡ from_low end (from_low low es) → from_low end (e ∷ es) ≡ from_low end (cond b (from_low low es) (e ∷ es))
 from_twice_by true low end e es b l ih = rw (below_through e.0 low end b l) ih
 from_twice_by false low end e es b l ih = refl
 
-from_twice : (low end : List ℕ) (es : Names) → order low end ≡ Less → from_low end es ≡ from_low end (from_low low es)
+from_twice : (low end : List ℕ) (es : Separators) → order low end ≡ Less → from_low end es ≡ from_low end (from_low low es)
 from_twice low end [] l = refl
 from_twice low end (e ∷ es) l = from_twice_by (is_below e.0 low) low end e es refl l (from_twice low end es l)
 
 -- rising entries from the first one's key on are all
-from_itself : (es : Names) → from_low (first_key es) es ≡ es
+from_itself : (es : Separators) → from_low (first_key es) es ≡ es
 from_itself [] = refl
 from_itself (e ∷ es) = rw (not_below_itself e.0) refl
 
 -- the end of a child's range is the key of an entry after the first
-end_by : (b : Bool) (k end : List ℕ) (e f : List ℕ × ℕ) (es : Names) → order e.0 f.0 ≡ Less → (let child : ℕ × Option (List ℕ) = cond b (e.1, Some f.0) (child_with_end k (f ∷ es)) in child.1 ≡ Some end)
+end_by : (b : Bool) (k end : List ℕ) (e f : List ℕ × ℕ) (es : Separators) → order e.0 f.0 ≡ Less → (let child : ℕ × Option (List ℕ) = cond b (e.1, Some f.0) (child_with_end k (f ∷ es)) in child.1 ≡ Some end)
     → ((child_with_end k (f ∷ es)).1 ≡ Some end → (order f.0 end ≡ Less) × IsEntry (f ∷ es) end) → (order e.0 end ≡ Less) × IsEntry (e ∷ f ∷ es) end
 end_by true k end e f es l c ih =
     let same : f.0 ≡ end = cc in
@@ -123,7 +123,7 @@ end_by false k end e f es l c ih =
     let m : order e.0 end ≡ Less = total.trans e.0 f.0 end l h.0 in
     (m, entry_earlier e (f ∷ es) end (less_is_below e.0 end m) h.1)
 
-end_entry : (k end : List ℕ) (e : List ℕ × ℕ) (es : Names) → IsRising (e ∷ es) → (child_with_end k (e ∷ es)).1 ≡ Some end → (order e.0 end ≡ Less) × IsEntry (e ∷ es) end
+end_entry : (k end : List ℕ) (e : List ℕ × ℕ) (es : Separators) → IsRising (e ∷ es) → (child_with_end k (e ∷ es)).1 ≡ Some end → (order e.0 end ≡ Less) × IsEntry (e ∷ es) end
 unfolding IsStrictlySortedBy
 end_entry k end e [] r c = absurd (cc)
 end_entry k end e (f ∷ es) r c = end_by (is_below k f.0) k end e f es r.0.0 c (end_entry k end f es r.1)
@@ -204,7 +204,7 @@ module _ {A : Type 0} (cs : List (Command A)) where
       all-append (IsBelowKey cs f.0) rs xs (all_weaker (IsBelowKey cs e.0) (IsBelowKey cs f.0) (λ q h. below_through (key_at cs q) e.0 f.0 h l) rs (all_below e.0 rs r)) b
 
   -- the first child gets the places before its end and those that reach it; the others get the rest
-  here : (e f : List ℕ × ℕ) (es : Names) (rs xs ys : List ℕ) → IsRising (e ∷ f ∷ es) → AllByRecursion (λ q. reaches_at cs e.0 q ≡ true) rs → AllByRecursion (IsFromKey cs e.0) (xs ++ ys) → AreParted (Some f.0) xs ys
+  here : (e f : List ℕ × ℕ) (es : Separators) (rs xs ys : List ℕ) → IsRising (e ∷ f ∷ es) → AllByRecursion (λ q. reaches_at cs e.0 q ≡ true) rs → AllByRecursion (IsFromKey cs e.0) (xs ++ ys) → AreParted (Some f.0) xs ys
       → (has_some xs || has_some rs) ≡ true
       → (let s : Share = record { pid = e.1; own = xs; reaching = without_idle cs (Some f.0) xs rs } in shares cs (rs ++ (xs ++ ys)) (children (e ∷ f ∷ es) None) ≡ s ∷ shares cs (left_over f.0 rs xs ys) (children (f ∷ es) None))
   unfolding IsStrictlySortedBy
@@ -232,7 +232,7 @@ module _ {A : Type 0} (cs : List (Command A)) where
       some_share e.1 begun xs (without_idle cs None begun reaching) (without_idle cs None xs rs) [] [] own (same_idle cs None begun xs reaching rs own (reaching_is e.0 rs (xs ++ ys) r a)) (ap (λ (b : Bool). has_some xs || b) (some_stay cs None xs rs) ∙ s) refl
 
   -- a child that lies before all places gets none
-  passed_over : (e f : List ℕ × ℕ) (es : Names) (qs : List ℕ) → order e.0 f.0 ≡ Less → AllByRecursion (IsFromKey cs f.0) qs → shares cs qs (children (e ∷ f ∷ es) None) ≡ shares cs qs (children (f ∷ es) None)
+  passed_over : (e f : List ℕ × ℕ) (es : Separators) (qs : List ℕ) → order e.0 f.0 ≡ Less → AllByRecursion (IsFromKey cs f.0) qs → shares cs qs (children (e ∷ f ∷ es) None) ≡ shares cs qs (children (f ∷ es) None)
   passed_over e f es qs l a =
       let begun = filter (is_in_range cs e.0 (Some f.0)) qs in
       let reaching = filter (reaches_at cs e.0) qs in
@@ -244,21 +244,21 @@ module _ {A : Type 0} (cs : List (Command A)) where
   -- ---- the next child that gets anything
 
   -- what remains for the children after one whose range has this end
-  abbrev pub rest_of : Option (List ℕ) → List ℕ → List ℕ → List ℕ → Names → List Share
+  abbrev pub rest_of : Option (List ℕ) → List ℕ → List ℕ → List ℕ → Separators → List Share
   rest_of None rs xs ys es = []
   rest_of (Some end) rs xs ys es = shares cs (left_over end rs xs ys) (children (from_low end es) None)
 
-  rest_later : (o : Option (List ℕ)) (k : List ℕ) (xs ys : List ℕ) (e f : List ℕ × ℕ) (es : Names) → IsRising (e ∷ f ∷ es) → (child_with_end k (f ∷ es)).1 ≡ o → rest_of o [] xs ys (f ∷ es) ≡ rest_of o [] xs ys (e ∷ f ∷ es)
+  rest_later : (o : Option (List ℕ)) (k : List ℕ) (xs ys : List ℕ) (e f : List ℕ × ℕ) (es : Separators) → IsRising (e ∷ f ∷ es) → (child_with_end k (f ∷ es)).1 ≡ o → rest_of o [] xs ys (f ∷ es) ≡ rest_of o [] xs ys (e ∷ f ∷ es)
   unfolding IsStrictlySortedBy
   rest_later None k xs ys e f es r c = refl
   rest_later (Some end) k xs ys e f es r c =
       let l : order e.0 end ≡ Less = total.trans e.0 f.0 end r.0.0 (end_entry k end f es r.1 c).0 in
       rw (less_is_below e.0 end l) refl
 
-  abbrev IsNext : List ℕ → Names → List ℕ → List ℕ → List ℕ → ℕ × Option (List ℕ) → Type 0
+  abbrev IsNext : List ℕ → Separators → List ℕ → List ℕ → List ℕ → ℕ × Option (List ℕ) → Type 0
   IsNext k es rs xs ys child = (let s : Share = record { pid = child.0; own = xs; reaching = without_idle cs child.1 xs rs } in shares cs (rs ++ (xs ++ ys)) (children es None) ≡ s ∷ rest_of child.1 rs xs ys es)
 
-  next_by : (b : Bool) (k : List ℕ) (e f : List ℕ × ℕ) (es : Names) (rs xs ys : List ℕ) → is_below k f.0 ≡ b → IsRising (e ∷ f ∷ es) → AllByRecursion (λ q. reaches_at cs e.0 q ≡ true) rs → AllByRecursion (IsFromKey cs e.0) (xs ++ ys)
+  next_by : (b : Bool) (k : List ℕ) (e f : List ℕ × ℕ) (es : Separators) (rs xs ys : List ℕ) → is_below k f.0 ≡ b → IsRising (e ∷ f ∷ es) → AllByRecursion (λ q. reaches_at cs e.0 q ≡ true) rs → AllByRecursion (IsFromKey cs e.0) (xs ++ ys)
       → (has_some rs ≡ true → k ≡ e.0) → AllByRecursion (IsFromKey cs k) (xs ++ ys) → (has_some xs || has_some rs) ≡ true
       → (let child : ℕ × Option (List ℕ) = cond b (e.1, Some f.0) (child_with_end k (f ∷ es)) in AreParted child.1 xs ys
       → (AllByRecursion (IsFromKey cs f.0) (xs ++ ys) → (has_some xs || false) ≡ true → AreParted (child_with_end k (f ∷ es)).1 xs ys → IsNext k (f ∷ es) [] xs ys (child_with_end k (f ∷ es)))
@@ -267,7 +267,7 @@ module _ {A : Type 0} (cs : List (Command A)) where
   next_by true k e f es rs xs ys b i r a w n s p ih =
       let first : Share = record { pid = e.1; own = xs; reaching = without_idle cs (Some f.0) xs rs } in
       let from : from_low f.0 (e ∷ f ∷ es) ≡ f ∷ es = rw (less_is_below e.0 f.0 i.0.0, not_below_itself f.0) refl in
-      here e f es rs xs ys i r a p s ∙ ap (λ (fs : Names). first ∷ shares cs (left_over f.0 rs xs ys) (children fs None)) (sym from)
+      here e f es rs xs ys i r a p s ∙ ap (λ (fs : Separators). first ∷ shares cs (left_over f.0 rs xs ys) (children fs None)) (sym from)
   next_by false k e f es (q ∷ rs) xs ys b i r a w n s p ih =
       absurd (let same = w refl in let l = less_is_below e.0 f.0 i.0.0 in let m : is_below k f.0 ≡ true = rw same l in cc)
   next_by false k e f es [] xs ys b i r a w n s p ih =
@@ -276,7 +276,7 @@ module _ {A : Type 0} (cs : List (Command A)) where
       let from = all_weaker (IsFromKey cs k) (IsFromKey cs f.0) (λ q h. from_higher (is_below (key_at cs q) f.0) (key_at cs q) k f.0 refl b h) (xs ++ ys) n in
       passed_over e f es (xs ++ ys) i.0.0 from ∙ ih from s p ∙ ap (λ (ss : List Share). first ∷ ss) (rest_later child.1 k xs ys e f es i refl)
 
-  next_from : (k : List ℕ) (e : List ℕ × ℕ) (es : Names) (rs xs ys : List ℕ) → IsRising (e ∷ es) → AllByRecursion (λ q. reaches_at cs e.0 q ≡ true) rs → AllByRecursion (IsFromKey cs e.0) (xs ++ ys)
+  next_from : (k : List ℕ) (e : List ℕ × ℕ) (es : Separators) (rs xs ys : List ℕ) → IsRising (e ∷ es) → AllByRecursion (λ q. reaches_at cs e.0 q ≡ true) rs → AllByRecursion (IsFromKey cs e.0) (xs ++ ys)
       → (has_some rs ≡ true → k ≡ e.0) → AllByRecursion (IsFromKey cs k) (xs ++ ys) → (has_some xs || has_some rs) ≡ true → AreParted (child_with_end k (e ∷ es)).1 xs ys → IsNext k (e ∷ es) rs xs ys (child_with_end k (e ∷ es))
   unfolding IsStrictlySortedBy
   next_from k e [] rs xs ys i r a w n s p = last e rs xs ys r a p s
@@ -286,37 +286,37 @@ module _ {A : Type 0} (cs : List (Command A)) where
   -- ---- a step of the walk
 
   -- the state of the walk: at the key of an entry, with scans that reach it, and with places from it on
-  pub record IsAt (es : Names) (low : List ℕ) (rs qs : List ℕ) : Type 0 where
+  pub record IsAt (es : Separators) (low : List ℕ) (rs qs : List ℕ) : Type 0 where
     pub entry : IsEntry es low
     pub reach : AllByRecursion (λ q. reaches_at cs low q ≡ true) rs
     pub from : AllByRecursion (IsFromKey cs low) qs
 
-  step_from : (left es : Names) (k low : List ℕ) (rs xs ys : List ℕ) → left ≡ from_low low es → IsRising left → IsAt es low rs (xs ++ ys) → (has_some rs ≡ true → k ≡ low) → AllByRecursion (IsFromKey cs k) (xs ++ ys)
+  step_from : (left es : Separators) (k low : List ℕ) (rs xs ys : List ℕ) → left ≡ from_low low es → IsRising left → IsAt es low rs (xs ++ ys) → (has_some rs ≡ true → k ≡ low) → AllByRecursion (IsFromKey cs k) (xs ++ ys)
       → (has_some xs || has_some rs) ≡ true → AreParted (child_with_end k left).1 xs ys → IsNext k left rs xs ys (child_with_end k left)
-  step_from [] es k low rs xs ys t r a w n s p = absurd (let z = subst (λ (fs : Names). 0 < length fs) (sym t) a.entry.some in omega arith)
+  step_from [] es k low rs xs ys t r a w n s p = absurd (let z = subst (λ (fs : Separators). 0 < length fs) (sym t) a.entry.some in omega arith)
   step_from (e ∷ left) es k low rs xs ys t r a w n s p =
-      let same : e.0 ≡ low = ap (λ (fs : Names). first_key fs) t ∙ a.entry.first in
+      let same : e.0 ≡ low = ap (λ (fs : Separators). first_key fs) t ∙ a.entry.first in
       next_from k e left rs xs ys r (subst (λ (x : List ℕ). AllByRecursion (λ q. reaches_at cs x q ≡ true) rs) (sym same) a.reach) (subst (λ (x : List ℕ). AllByRecursion (IsFromKey cs x) (xs ++ ys)) (sym same) a.from)
       (λ h. w h ∙ sym same) n s p
 
   -- a child's range ends after the walk's key, at another entry, and fewer entries remain from there on
-  end_from : (left es : Names) (k low end : List ℕ) → left ≡ from_low low es → IsRising left → IsEntry es low → (child_with_end k left).1 ≡ Some end → (order low end ≡ Less) × (length (from_low end left) < length left) × IsEntry left end
+  end_from : (left es : Separators) (k low end : List ℕ) → left ≡ from_low low es → IsRising left → IsEntry es low → (child_with_end k left).1 ≡ Some end → (order low end ≡ Less) × (length (from_low end left) < length left) × IsEntry left end
   end_from [] es k low end t r h c = absurd (cc)
   end_from (e ∷ left) es k low end t r h c =
-      let same : e.0 ≡ low = ap (λ (fs : Names). first_key fs) t ∙ h.first in
+      let same : e.0 ≡ low = ap (λ (fs : Separators). first_key fs) t ∙ h.first in
       let at = end_entry k end e left r c in
       let dropped : from_low end (e ∷ left) ≡ from_low end left = rw (less_is_below e.0 end at.0) refl in
       let fewer = no_longer end left in
       (subst (λ (x : List ℕ). order x end ≡ Less) same at.0, rw dropped (omega arith), at.1)
 
-  rest_from : (o : Option (List ℕ)) (es : Names) (k low : List ℕ) (rs xs ys : List ℕ) → IsRising es → IsEntry es low → (child_with_end k (from_low low es)).1 ≡ o → rest_of o rs xs ys (from_low low es) ≡ rest_of o rs xs ys es
+  rest_from : (o : Option (List ℕ)) (es : Separators) (k low : List ℕ) (rs xs ys : List ℕ) → IsRising es → IsEntry es low → (child_with_end k (from_low low es)).1 ≡ o → rest_of o rs xs ys (from_low low es) ≡ rest_of o rs xs ys es
   rest_from None es k low rs xs ys r h c = refl
   rest_from (Some end) es k low rs xs ys r h c =
       let l = (end_from (from_low low es) es k low end refl (rising_from low es r) h c).0 in
-      ap (λ (fs : Names). shares cs (left_over end rs xs ys) (children fs None)) (sym (from_twice low end es l))
+      ap (λ (fs : Separators). shares cs (left_over end rs xs ys) (children fs None)) (sym (from_twice low end es l))
 
   -- the child of a key gets what lies before its end, and what reaches it, and those after it get the rest
-  pub walk_step : (es : Names) (k low : List ℕ) (rs xs ys : List ℕ) (pid : ℕ) (end : Option (List ℕ)) → IsRising es → IsAt es low rs (xs ++ ys) → is_below k low ≡ false → (has_some rs ≡ true → k ≡ low)
+  pub walk_step : (es : Separators) (k low : List ℕ) (rs xs ys : List ℕ) (pid : ℕ) (end : Option (List ℕ)) → IsRising es → IsAt es low rs (xs ++ ys) → is_below k low ≡ false → (has_some rs ≡ true → k ≡ low)
       → AllByRecursion (IsFromKey cs k) (xs ++ ys) → (has_some xs || has_some rs) ≡ true → (pid, end) ≡ child_with_end k es → AreParted end xs ys
       → (let s : Share = record { pid = pid; own = xs; reaching = without_idle cs end xs rs } in shares cs (rs ++ (xs ++ ys)) (children (from_low low es) None) ≡ s ∷ rest_of end rs xs ys es)
   walk_step es k low rs xs ys pid end r a b w n s c p =
@@ -332,7 +332,7 @@ module _ {A : Type 0} (cs : List (Command A)) where
       ∙ ap (λ (o : Option (List ℕ)). share pid o ∷ rest_of o rs xs ys es) (sym end_is)
 
   -- the walk's next state is at that end, with fewer children remaining
-  pub walk_on : (es : Names) (k low end : List ℕ) (rs xs ys : List ℕ) (pid : ℕ) → IsRising es → IsAt es low rs (xs ++ ys) → is_below k low ≡ false → (pid, Some end) ≡ child_with_end k es → AreParted (Some end) xs ys
+  pub walk_on : (es : Separators) (k low end : List ℕ) (rs xs ys : List ℕ) (pid : ℕ) → IsRising es → IsAt es low rs (xs ++ ys) → is_below k low ≡ false → (pid, Some end) ≡ child_with_end k es → AreParted (Some end) xs ys
       → IsAt es end (filter (reaches_at cs end) (rs ++ xs)) ys × (length (from_low end es) < length (from_low low es))
   walk_on es k low end rs xs ys pid r a b c p =
       let left = from_low low es in
@@ -400,7 +400,7 @@ module _ {A : Type 0} (cs : List (Command A)) where
   pub child_for_next : (page : PageOfKind) (low k : List ℕ) (rs : List ℕ) (rest : List Keyed) → IsWalking page low rs rest k → HasChildFor page k
   child_for_next page low k rs rest w = some_child (child_entries page) w.at.entry (key_of_walk page low k rs rest w).above
     where
-      some_child : (es : Names) → IsEntry es low → is_below k low ≡ false → (0 < length es) × (is_below k (first_key es) ≡ false)
+      some_child : (es : Separators) → IsEntry es low → is_below k low ≡ false → (0 < length es) × (is_below k (first_key es) ≡ false)
       some_child [] h n = absurd (let s = h.some in omega arith)
       some_child (e ∷ es) h n = (omega arith, from_higher (is_below k e.0) k low e.0 refl (first_by (is_below e.0 low) e es low refl h) n)
 
@@ -446,7 +446,7 @@ module _ {A : Type 0} (cs : List (Command A)) where
       subst (λ (zs : List ℕ). AllByRecursion (IsFromKey cs low) zs) (sym p)
       (all_weaker (λ q. HasChildFor page (key_at cs q)) (IsFromKey cs low) (λ q c. subst (λ (x : List ℕ). is_below (key_at cs q) x ≡ false) first c.1) s.own h.own.each) in (
         record { entry = record { some = rw all h.some; first = rw all first }; reach = reach; from = from },
-        ap (λ (fs : Names). shares cs (rs ++ ps) (children fs None)) all
+        ap (λ (fs : Separators). shares cs (rs ++ ps) (children fs None)) all
             ∙ ap (λ (zs : List ℕ). shares cs (zs ++ ps) (children es None)) r
             ∙ ap (λ (zs : List ℕ). shares cs (s.reaching ++ zs) (children es None)) p,
       )

@@ -2,21 +2,21 @@
 use Rattle.std.specs.Prelude.{ℕ, Bool, true, false, not, ◌&&◌, List, take, slice_get, Option, Some, None}
 use Rattle.std.specs.List.{list_any}
 use Rattle.keys.specs.Bytes.{Bytes}
-use Rattle.keys.specs.Footprint.{Span, One, Range, Deed, Looks, Gives, Takes, span_of, deed_of}
+use Rattle.keys.specs.Footprint.{Span, One, Range, Access, Looks, Gives, Takes, span_of, access_of}
 use Rattle.keys.specs.Places.{is_some_that}
 use Rattle.keys.specs.declared.command.Command.{Command}
 use Rattle.index_page.specs.Range.{is_below}
 use Rattle.routing.specs.SortedPlaces.{begins_in, reaches, reaches_at}
 
 -- whether a command of this kind sets values
-abbrev pub is_giving : Deed → Bool
+abbrev pub is_giving : Access → Bool
 is_giving Looks = false
 is_giving (Gives v) = true
 is_giving Takes = false
 
 -- whether the command does
 abbrev pub gives : {A : Type 0} → Command A → Bool
-gives c = is_giving (deed_of c)
+gives c = is_giving (access_of c)
 
 -- whether the command at this place does
 abbrev pub gives_at : {A : Type 0} → List (Command A) → ℕ → Bool
@@ -29,7 +29,7 @@ covers None (Some hi) = false
 covers (Some end) (Some hi) = not (is_below hi end)
 
 -- whether a command of this kind deletes all keys from the span's first key up to this end
-abbrev pub clears : Option Bytes → Deed → Span → Bool
+abbrev pub clears : Option Bytes → Access → Span → Bool
 clears end Looks s = false
 clears end (Gives v) s = false
 clears end Takes (One k) = false
@@ -37,7 +37,7 @@ clears end Takes (Range lo hi) = covers end hi
 
 -- whether the command does
 abbrev pub empties : {A : Type 0} → Option Bytes → Command A → Bool
-empties end c = clears end (deed_of c) (span_of c)
+empties end c = clears end (access_of c) (span_of c)
 
 -- whether the command at this place does
 abbrev pub empties_at : {A : Type 0} → List (Command A) → Option Bytes → ℕ → Bool

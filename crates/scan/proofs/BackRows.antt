@@ -10,8 +10,8 @@ use Rattle.keys.specs.Order.{IsRising}
 use Rattle.keys.specs.Range.{is_below, is_before, is_within, in_range}
 use Rattle.keys.proofs.RangeLemmas.{rising-filtered}
 use Rattle.delta_chain.specs.Layers.{Layers, entries_of}
-use Rattle.delta_chain.specs.Late.{Late, seen}
-use Rattle.delta_chain.proofs.LateLemmas.{entries-seen}
+use Rattle.delta_chain.specs.Lazy.{Lazy, seen}
+use Rattle.delta_chain.proofs.LazyLemmas.{entries-seen}
 use Rattle.index_page.specs.Page.{Page, entries}
 use Rattle.index_page.proofs.ListLemmas.{all-append}
 use Rattle.mapping.specs.Levels.{levels_of, contents}
@@ -174,7 +174,7 @@ none_left_back limit start all h = none_left (Some limit) (is_from start) (rever
 -- ---- from leaf to leaf
 
 -- what the chain in memory has before an end is what the leaf has
-pub late_before : (hi : Option (List ℕ)) (c : Late (List ℕ)) (chain : Layers (List ℕ)) (left : Pairs) → chain ≡ c.chain → left ≡ before hi (entries_of chain) → left ≡ before hi (entries_of (seen c))
+pub late_before : (hi : Option (List ℕ)) (c : Lazy (List ℕ)) (chain : Layers (List ℕ)) (left : Pairs) → chain ≡ c.chain → left ≡ before hi (entries_of chain) → left ≡ before hi (entries_of (seen c))
 late_before hi c chain left e l = l ∙ ap (λ (p : Layers (List ℕ)). before hi (entries_of p)) e ∙ ap (λ (es : Pairs). before hi es) (sym (entries-seen c))
 
 -- a leaf without remaining pairs is replaced by the one before it

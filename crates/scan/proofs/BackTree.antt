@@ -48,32 +48,32 @@ module _ {X : Type 0} where
       let both = same_end xs ys x y rest in
       (ap (λ (a : X). a ∷ xs) first ∙ ap (λ (zs : List X). w ∷ zs) both.0, both.1)
 
-abbrev Names : Type 0
-Names = List (List ℕ × ℕ)
+abbrev Separators : Type 0
+Separators = List (List ℕ × ℕ)
 
-last_of : (e : List ℕ × ℕ) (es : Names) → (l : List ℕ × ℕ) × EndsWith l (e ∷ es)
+last_of : (e : List ℕ × ℕ) (es : Separators) → (l : List ℕ × ℕ) × EndsWith l (e ∷ es)
 last_of e [] = (e, record { rest = []; parts = refl })
-last_of e (f ∷ es) = let l = last_of f es in (l.0, record { rest = e ∷ l.1.rest; parts = ap (λ (x : Names). e ∷ x) l.1.parts })
+last_of e (f ∷ es) = let l = last_of f es in (l.0, record { rest = e ∷ l.1.rest; parts = ap (λ (x : Separators). e ∷ x) l.1.parts })
 
-values-append : (xs : Names) (l : List ℕ × ℕ) → values_of (xs ++ l ∷ []) ≡ values_of xs ++ l.1 ∷ []
+values-append : (xs : Separators) (l : List ℕ × ℕ) → values_of (xs ++ l ∷ []) ≡ values_of xs ++ l.1 ∷ []
 values-append xs l = map-append (λ (e : List ℕ × ℕ). e.1) xs (l ∷ [])
 
-value_kept_by : (b : Bool) (P : ℕ → Type 0) (e : List ℕ × ℕ) (kept : Names) → P e.1 → AllByRecursion P (values_of kept) → AllByRecursion P (values_of (cond b (e ∷ kept) kept))
+value_kept_by : (b : Bool) (P : ℕ → Type 0) (e : List ℕ × ℕ) (kept : Separators) → P e.1 → AllByRecursion P (values_of kept) → AllByRecursion P (values_of (cond b (e ∷ kept) kept))
 value_kept_by true P e kept p a = (p, a)
 value_kept_by false P e kept p a = a
 
-values_kept : (P : ℕ → Type 0) (hi : Option (List ℕ)) (es : Names) → AllByRecursion P (values_of es) → AllByRecursion P (values_of (before hi es))
+values_kept : (P : ℕ → Type 0) (hi : Option (List ℕ)) (es : Separators) → AllByRecursion P (values_of es) → AllByRecursion P (values_of (before hi es))
 values_kept P hi [] a = tt
 values_kept P hi (e ∷ es) a = value_kept_by (is_before hi e.0) P e (before hi es) a.0 (values_kept P hi es a.1)
 
-children_kept : (P : ℕ → Type 0) (hi : Option (List ℕ)) (es : Names) → AllByRecursion P (values_of es) → AllByRecursion P (values_of (children_before hi es))
+children_kept : (P : ℕ → Type 0) (hi : Option (List ℕ)) (es : Separators) → AllByRecursion P (values_of es) → AllByRecursion P (values_of (children_before hi es))
 children_kept P hi [] a = tt
 children_kept P hi (e ∷ es) a = (a.0, values_kept P hi es a.1)
 
 module _ (ps : List (ℕ × PageOfKind)) where
   -- ---- leaves up to the last child
 
-  to_last-end : (n : ℕ) (last : List ℕ × ℕ → List ℕ) (xs : Names) (e : List ℕ × ℕ) → leaves_to_last last (leaves_under ps n) (xs ++ e ∷ []) ≡ leaves_under ps n (values_of xs) ++ last e
+  to_last-end : (n : ℕ) (last : List ℕ × ℕ → List ℕ) (xs : Separators) (e : List ℕ × ℕ) → leaves_to_last last (leaves_under ps n) (xs ++ e ∷ []) ≡ leaves_under ps n (values_of xs) ++ last e
   to_last-end n last [] e = sym (ap (λ (x : List ℕ). x ++ last e) (under-none ps n))
   to_last-end n last (x ∷ []) e = refl
   to_last-end n last (x ∷ y ∷ xs) e =
@@ -103,12 +103,12 @@ module _ (ps : List (ℕ × PageOfKind)) where
     pub others : AllByRecursion (IsKnown ps level) rest
     pub leaves : leaves_back ps n hi pid ≡ leaves_under ps level rest ++ leaves_back ps level hi last
 
-  step_by : (n pid : ℕ) (hi : Option (List ℕ)) (es : Names) → 0 < length es → AllByRecursion (IsKnown ps n) (values_of es)
+  step_by : (n pid : ℕ) (hi : Option (List ℕ)) (es : Separators) → 0 < length es → AllByRecursion (IsKnown ps n) (values_of es)
       → leaves_back ps (suc n) hi pid ≡ leaves_to_last (λ (e : List ℕ × ℕ). leaves_back ps n hi e.1) (leaves_under ps n) (children_before hi es) → IsStepBack (suc n) hi pid (values_of (children_before hi es))
   step_by n pid hi [] l a h = absurd (omega arith)
   step_by n pid hi (e ∷ es) l a h =
       let end = last_of e (before hi es) in
-      let parts : values_of (children_before hi (e ∷ es)) ≡ values_of end.1.rest ++ end.0.1 ∷ [] = ap (λ (x : Names). values_of x) end.1.parts ∙ values-append end.1.rest end.0 in
+      let parts : values_of (children_before hi (e ∷ es)) ≡ values_of end.1.rest ++ end.0.1 ∷ [] = ap (λ (x : Separators). values_of x) end.1.parts ∙ values-append end.1.rest end.0 in
       let all = all_apart (IsKnown ps n) (values_of end.1.rest) (end.0.1 ∷ []) (subst (λ (x : List ℕ). AllByRecursion (IsKnown ps n) x) parts (children_kept (IsKnown ps n) hi (e ∷ es) a)) in
       record {
         level = n;
@@ -119,7 +119,7 @@ module _ (ps : List (ℕ × PageOfKind)) where
         known = all.1.0;
         others = all.0;
         leaves =
-            h ∙ ap (λ (x : Names). leaves_to_last (λ (f : List ℕ × ℕ). leaves_back ps n hi f.1) (leaves_under ps n) x) end.1.parts
+            h ∙ ap (λ (x : Separators). leaves_to_last (λ (f : List ℕ × ℕ). leaves_back ps n hi f.1) (leaves_under ps n) x) end.1.parts
             ∙ to_last-end n (λ (f : List ℕ × ℕ). leaves_back ps n hi f.1) end.1.rest end.0;
       }
 
@@ -127,26 +127,26 @@ module _ (ps : List (ℕ × PageOfKind)) where
   at_index_back n pid hi page k h i =
       let x = index_page_at ps n pid page k h i in
       subst (λ (m : ℕ). IsStepBack m hi pid (values_of (children_before hi (child_entries page)))) x.height
-      (subst (λ (es : Names). IsStepBack (suc x.level) hi pid (values_of (children_before hi es))) (sym x.entries)
+      (subst (λ (es : Separators). IsStepBack (suc x.level) hi pid (values_of (children_before hi es))) (sym x.entries)
       (step_by x.level pid hi (entries_at ps pid) x.known.2 x.known.3 refl))
 
   -- ---- without an end, a descent reaches all leaves
 
-  to_last-all : (n : ℕ) (last : List ℕ × ℕ → List ℕ) (es : Names) → ((e : List ℕ × ℕ) → IsKnown ps n e.1 → last e ≡ leaves_under ps n (e.1 ∷ [])) → AllByRecursion (IsKnown ps n) (values_of es)
+  to_last-all : (n : ℕ) (last : List ℕ × ℕ → List ℕ) (es : Separators) → ((e : List ℕ × ℕ) → IsKnown ps n e.1 → last e ≡ leaves_under ps n (e.1 ∷ [])) → AllByRecursion (IsKnown ps n) (values_of es)
       → leaves_to_last last (leaves_under ps n) es ≡ leaves_under ps n (values_of es)
   to_last-all n last [] f a = sym (under-none ps n)
   to_last-all n last (e ∷ []) f a = f e a.0
   to_last-all n last (e ∷ g ∷ es) f a =
       ap (λ (x : List ℕ). leaves_under ps n (e.1 ∷ []) ++ x) (to_last-all n last (g ∷ es) f a.1) ∙ sym (leaves_under-append ps n (e.1 ∷ []) (values_of (g ∷ es)))
 
-  all_children : (es : Names) → children_before None es ≡ es
+  all_children : (es : Separators) → children_before None es ≡ es
   all_children [] = refl
-  all_children (e ∷ es) = ap (λ (x : Names). e ∷ x) (before_none es)
+  all_children (e ∷ es) = ap (λ (x : Separators). e ∷ x) (before_none es)
 
   pub back-to-all : (n pid : ℕ) → IsKnown ps n pid → leaves_back ps n None pid ≡ leaves_under ps n (pid ∷ [])
   back-to-all zero pid k = refl
   back-to-all (suc n) pid k =
-      ap (λ (es : Names). leaves_to_last (λ (e : List ℕ × ℕ). leaves_back ps n None e.1) (leaves_under ps n) es) (all_children (entries_at ps pid))
+      ap (λ (es : Separators). leaves_to_last (λ (e : List ℕ × ℕ). leaves_back ps n None e.1) (leaves_under ps n) es) (all_children (entries_at ps pid))
       ∙ to_last-all n (λ (e : List ℕ × ℕ). leaves_back ps n None e.1) (entries_at ps pid) (λ e h. back-to-all n e.1 h) k.3
       ∙ sym (leaves_under-one ps n pid)
 
@@ -253,30 +253,30 @@ not_before_from None low j n m = absurd (cc)
 not_before_from (Some end) low j n m = not_before_by (is_below j end) j low end refl n m
 
 -- children in parts: those before the last that may have keys before the end, that one, and those from the end on
-record IsCutBack (hi : Option (List ℕ)) (es : Names) : Type 0 where
-  pub front : Names
+record IsCutBack (hi : Option (List ℕ)) (es : Separators) : Type 0 where
+  pub front : Separators
   pub last : List ℕ × ℕ
-  pub rest : Names
+  pub rest : Separators
   pub parts : es ≡ front ++ last ∷ rest
   pub kept : children_before hi es ≡ front ++ last ∷ []
   pub here : (front ≡ []) ⊎ (is_before hi last.0 ≡ true)
   pub pairs_after : AllByRecursion (λ (e : List ℕ × ℕ). is_before hi e.0 ≡ false) rest
 
-all_fail : (hi : Option (List ℕ)) (es : Names) → AllByRecursion (λ (e : List ℕ × ℕ). is_before hi e.0 ≡ false) (Rest hi es)
+all_fail : (hi : Option (List ℕ)) (es : Separators) → AllByRecursion (λ (e : List ℕ × ℕ). is_before hi e.0 ≡ false) (Rest hi es)
 all_fail hi [] = tt
 all_fail hi (e ∷ es) = by (is_before hi e.0) e (Rest hi es) refl (all_fail hi es)
   where
-    by : (b : Bool) (e : List ℕ × ℕ) (kept : Names) → is_before hi e.0 ≡ b → AllByRecursion (λ (e : List ℕ × ℕ). is_before hi e.0 ≡ false) kept → AllByRecursion (λ (e : List ℕ × ℕ). is_before hi e.0 ≡ false) (cond (not b) (e ∷ kept) kept)
+    by : (b : Bool) (e : List ℕ × ℕ) (kept : Separators) → is_before hi e.0 ≡ b → AllByRecursion (λ (e : List ℕ × ℕ). is_before hi e.0 ≡ false) kept → AllByRecursion (λ (e : List ℕ × ℕ). is_before hi e.0 ≡ false) (cond (not b) (e ∷ kept) kept)
     by true e kept h a = a
     by false e kept h a = (h, a)
 
-cut_here : (hi : Option (List ℕ)) (e : List ℕ × ℕ) (kept front : Names) (last : List ℕ × ℕ) → e ∷ kept ≡ front ++ last ∷ [] → AllByRecursion (λ (f : List ℕ × ℕ). is_before hi f.0 ≡ true) kept → (front ≡ []) ⊎ (is_before hi last.0 ≡ true)
+cut_here : (hi : Option (List ℕ)) (e : List ℕ × ℕ) (kept front : Separators) (last : List ℕ × ℕ) → e ∷ kept ≡ front ++ last ∷ [] → AllByRecursion (λ (f : List ℕ × ℕ). is_before hi f.0 ≡ true) kept → (front ≡ []) ⊎ (is_before hi last.0 ≡ true)
 cut_here hi e kept [] last h a = inl refl
 cut_here hi e kept (f ∷ front) last h a =
     let rest : kept ≡ front ++ last ∷ [] = cc in
-    inr ((all_apart (λ (g : List ℕ × ℕ). is_before hi g.0 ≡ true) front (last ∷ []) (subst (λ (x : Names). AllByRecursion (λ (g : List ℕ × ℕ). is_before hi g.0 ≡ true) x) rest a)).1.0)
+    inr ((all_apart (λ (g : List ℕ × ℕ). is_before hi g.0 ≡ true) front (last ∷ []) (subst (λ (x : Separators). AllByRecursion (λ (g : List ℕ × ℕ). is_before hi g.0 ≡ true) x) rest a)).1.0)
 
-cut_back : (hi : Option (List ℕ)) (es : Names) → IsRising es → 0 < length es → IsCutBack hi es
+cut_back : (hi : Option (List ℕ)) (es : Separators) → IsRising es → 0 < length es → IsCutBack hi es
 unfolding IsStrictlySortedBy
 cut_back hi [] r l = absurd (omega arith)
 cut_back hi (e ∷ es) r l =
@@ -286,8 +286,8 @@ cut_back hi (e ∷ es) r l =
       last = end.0;
       rest = Rest hi es;
       parts =
-          ap (λ (x : Names). e ∷ x) (parted hi es r.1)
-          ∙ ap (λ (x : Names). x ++ Rest hi es) end.1.parts
+          ap (λ (x : Separators). e ∷ x) (parted hi es r.1)
+          ∙ ap (λ (x : Separators). x ++ Rest hi es) end.1.parts
           ∙ append_assoc end.1.rest (end.0 ∷ []) (Rest hi es);
       kept = end.1.parts;
       here = cut_here hi e (before hi es) end.1.rest end.0 end.1.parts (before_pass hi es);
@@ -305,7 +305,7 @@ module _ (ps : List (ℕ × PageOfKind)) where
   abbrev Held : List ℕ → List (List ℕ × List ℕ)
   Held pids = pairs (leaf_pages ps pids)
 
-  abbrev Tiles : ℕ → Names → List (Placed (List ℕ))
+  abbrev Tiles : ℕ → Separators → List (Placed (List ℕ))
   Tiles n es = map (leaf_at ps) (leaves_under ps n (values_of es))
 
   three_parts_back : (hi : Option (List ℕ)) (front here rest all found : List ℕ) → all ≡ front ++ (here ++ rest) → before hi (Held front) ≡ Held front → before hi (Held rest) ≡ [] → IsBefore hi here found → IsBefore hi all (front ++ found)
@@ -329,7 +329,7 @@ module _ (ps : List (ℕ × PageOfKind)) where
       }
 
   -- the pairs below children that end where a low key before the end is
-  kept_front : (n : ℕ) (hi : Option (List ℕ)) (low : List ℕ) (es : Names) → AllByRecursion (IsSubtree ps n) (children es (Some low)) → is_before hi low ≡ true → before hi (Held (leaves_under ps n (values_of es))) ≡ Held (leaves_under ps n (values_of es))
+  kept_front : (n : ℕ) (hi : Option (List ℕ)) (low : List ℕ) (es : Separators) → AllByRecursion (IsSubtree ps n) (children es (Some low)) → is_before hi low ≡ true → before hi (Held (leaves_under ps n (values_of es))) ≡ Held (leaves_under ps n (values_of es))
   kept_front n hi low es a h =
       let held : List (List ℕ × List ℕ) = Held (leaves_under ps n (values_of es)) in
       let t = tiles ps n es (Some low) a in
@@ -345,7 +345,7 @@ module _ (ps : List (ℕ × PageOfKind)) where
       subst (λ (j : List ℕ). AreFrom j (keys_of (joined (p ∷ ls)))) same (from-joined p ls end t)
 
   -- the pairs below children that begin at the end or above it
-  dropped_rest : (n : ℕ) (hi : Option (List ℕ)) (es : Names) (end : Option (List ℕ)) → AllByRecursion (IsSubtree ps n) (children es end) → AllByRecursion (λ (e : List ℕ × ℕ). is_before hi e.0 ≡ false) es → before hi (Held (leaves_under ps n (values_of es))) ≡ []
+  dropped_rest : (n : ℕ) (hi : Option (List ℕ)) (es : Separators) (end : Option (List ℕ)) → AllByRecursion (IsSubtree ps n) (children es end) → AllByRecursion (λ (e : List ℕ × ℕ). is_before hi e.0 ≡ false) es → before hi (Held (leaves_under ps n (values_of es))) ≡ []
   dropped_rest n hi [] end a b = ap (λ (x : List ℕ). before hi (Held x)) (under-none ps n)
   dropped_rest n hi (e ∷ es) end a b =
       let held : List (List ℕ × List ℕ) = Held (leaves_under ps n (values_of (e ∷ es))) in
@@ -363,11 +363,11 @@ module _ (ps : List (ℕ × PageOfKind)) where
     kept = ap (λ (x : List (List ℕ × List ℕ)). before hi x) (append-nil (page.entries (leaf_under ps at.pid)));
   }
   way_back (suc n) hi at s =
-      let es : Names = entries_at ps at.pid in
+      let es : Separators = entries_at ps at.pid in
       let c = cut_back hi es s.3 s.4 in
-      let under : Names → List ℕ = λ x. leaves_under ps n (values_of x) in
+      let under : Separators → List ℕ = λ x. leaves_under ps n (values_of x) in
       let all = all_apart (IsSubtree ps n) (children c.front (Some c.last.0)) (children (c.last ∷ c.rest) at.end)
-      (subst (λ (ats : List Place). AllByRecursion (IsSubtree ps n) ats) (ap (λ (x : Names). children x at.end) c.parts ∙ children-append c.front (c.last ∷ c.rest) at.end) s.5) in
+      (subst (λ (ats : List Place). AllByRecursion (IsSubtree ps n) ats) (ap (λ (x : Separators). children x at.end) c.parts ∙ children-append c.front (c.last ∷ c.rest) at.end) s.5) in
       let others = subst (λ (ats : List Place). AllByRecursion (IsSubtree ps n) ats) (children-cons c.last c.rest at.end) all.1 in
       let front : before hi (Held (under c.front)) ≡ Held (under c.front) = elim c.here [
         | inl e ↦
@@ -382,7 +382,7 @@ module _ (ps : List (ℕ × PageOfKind)) where
       ∙ leaves_under-append ps n (values_of c.front) (c.last.1 ∷ values_of c.rest)
       ∙ ap (λ (x : List ℕ). under c.front ++ x) (leaves_under-append ps n (c.last.1 ∷ []) (values_of c.rest)) in
       let found : leaves_back ps (suc n) hi at.pid ≡ under c.front ++ leaves_back ps n hi c.last.1 =
-      ap (λ (x : Names). leaves_to_last (λ (e : List ℕ × ℕ). leaves_back ps n hi e.1) (leaves_under ps n) x) c.kept ∙ to_last-end ps n (λ (e : List ℕ × ℕ). leaves_back ps n hi e.1) c.front c.last in
+      ap (λ (x : Separators). leaves_to_last (λ (e : List ℕ × ℕ). leaves_back ps n hi e.1) (leaves_under ps n) x) c.kept ∙ to_last-end ps n (λ (e : List ℕ × ℕ). leaves_back ps n hi e.1) c.front c.last in
       subst (λ (x : List ℕ). IsBefore hi (leaves_under ps (suc n) (at.pid ∷ [])) x) (sym found)
       (three_parts_back hi (under c.front) (leaves_under ps n (c.last.1 ∷ [])) (under c.rest) (leaves_under ps (suc n) (at.pid ∷ [])) (leaves_back ps n hi c.last.1) whole front
       (dropped_rest n hi c.rest at.end others.1 c.pairs_after) (way_back n hi (place_of c.last (next_key c.rest at.end)) others.0))

@@ -12,11 +12,11 @@ use Rattle.index_page.proofs.RangeLemmas.{less_is_below}
 use Rattle.index_page.proofs.ChildLemmas.{next_key, within, not_within_after}
 use Rattle.page_search.specs.Places.{KeyGoesTo}
 use Rattle.page_search.proofs.PlaceLemmas.{rising-by_place, rising-or_same}
-use Rattle.scan.proofs.CutLemmas.{Names, kept-cons, meets_at, meets_not, kept-all}
+use Rattle.scan.proofs.CutLemmas.{Separators, kept-cons, meets_at, meets_not, kept-all}
 use Rattle.scan.proofs.LeafLemmas.{itself, above_not_below}
 
 -- a child at a place, and those after it
-pub next_pid : (es : Names) (at pid : ℕ) → slice_get (values_of es) at ≡ Some pid → values_of (drop at es) ≡ pid ∷ values_of (drop (at + 1) es)
+pub next_pid : (es : Separators) (at pid : ℕ) → slice_get (values_of es) at ≡ Some pid → values_of (drop at es) ≡ pid ∷ values_of (drop (at + 1) es)
 next_pid [] at pid h = absurd (cc)
 next_pid (e ∷ es) zero pid h = let first : e.1 ≡ pid = cc in ap (λ (n : ℕ). n ∷ values_of es) first
 next_pid (e ∷ es) (suc at) pid h =
@@ -39,16 +39,16 @@ module _ (key : List ℕ) where
   all_above [] h = tt
   all_above (k ∷ ks) h = (h zero k refl, all_above ks (λ m j q. h (suc m) j q))
 
-  before_next : (es : Names) → IsBelowAll key (keys_of es) → is_before (next_key es None) key ≡ true
+  before_next : (es : Separators) → IsBelowAll key (keys_of es) → is_before (next_key es None) key ≡ true
   before_next [] a = refl
   before_next (f ∷ es) a = less_is_below key f.0 a.0
 
-  kept_from : (n : ℕ) (es : Names) → IsRising es → IsUpTo (keys_of es) (suc n) → drop n es ≡ children_within key None es
+  kept_from : (n : ℕ) (es : Separators) → IsRising es → IsUpTo (keys_of es) (suc n) → drop n es ≡ children_within key None es
   unfolding IsStrictlySortedBy
   kept_from n [] r u = let w = u.within in absurd (omega (arith, w))
   kept_from zero (e ∷ es) r u =
       let above : IsBelowAll key (keys_of es) = all_above (keys_of es) (λ m j q. u.above (suc m) j (omega arith) q) in
-      sym (kept-cons key true e es (meets_at key e (next_key es None) (within e.0 (next_key es None) key (u.upto zero e.0 (omega arith) refl) (before_next es above))) ∙ ap (λ (x : Names). e ∷ x) (kept-all key es above))
+      sym (kept-cons key true e es (meets_at key e (next_key es None) (within e.0 (next_key es None) key (u.upto zero e.0 (omega arith) refl) (before_next es above))) ∙ ap (λ (x : Separators). e ∷ x) (kept-all key es above))
   kept_from (suc n) (e ∷ []) r u = let w = u.within in absurd (omega (arith, w))
   kept_from (suc n) (e ∷ f ∷ es) r u =
       kept_from n (f ∷ es) r.1 (tail_upto e.0 (keys_of (f ∷ es)) (suc n) u)
@@ -67,13 +67,13 @@ module _ (key : List ℕ) where
   up_to_gap ks at g = record { within = g.within; upto = λ m j l q. above_not_below j key (g.below m j l q); above = g.above }
 
   -- where the key is among the low keys
-  pub kept-there : (es : Names) (at : ℕ) → IsRising es → slice_get (keys_of es) at ≡ Some key → drop at es ≡ children_within key None es
+  pub kept-there : (es : Separators) (at : ℕ) → IsRising es → slice_get (keys_of es) at ≡ Some key → drop at es ≡ children_within key None es
   kept-there es at r h = kept_from at es r (up_to_there (keys_of es) at r h)
 
-  gap_by : (es : Names) (at : ℕ) → IsRising es → IsUpTo (keys_of es) at → drop (at - 1) es ≡ children_within key None es
+  gap_by : (es : Separators) (at : ℕ) → IsRising es → IsUpTo (keys_of es) at → drop (at - 1) es ≡ children_within key None es
   gap_by es zero r u = sym (kept-all key es (all_above (keys_of es) (λ m j q. u.above m j (omega arith) q)))
   gap_by es (suc at) r u = let n : at ≡ suc at - 1 = omega arith in ap (λ (i : ℕ). drop i es) (sym n) ∙ kept_from at es r u
 
   -- where it would go
-  pub kept-gap : (es : Names) (at : ℕ) → IsRising es → KeyGoesTo key (keys_of es) at → drop (at - 1) es ≡ children_within key None es
+  pub kept-gap : (es : Separators) (at : ℕ) → IsRising es → KeyGoesTo key (keys_of es) at → drop (at - 1) es ≡ children_within key None es
   kept-gap es at r g = gap_by es at r (up_to_gap (keys_of es) at g)

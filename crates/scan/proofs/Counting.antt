@@ -12,7 +12,7 @@ use Rattle.keys.specs.Order.{order}
 use Rattle.keys.specs.Range.{is_below}
 use Rattle.keys.proofs.MapLemmas.{total}
 use Rattle.index_page.proofs.RangeLemmas.{less_is_below, below_is_less, less_through, low_through, not_below_lower, not_below_itself}
-use Rattle.scan.specs.Tally.{Tally, passing, below, PassesLower, counted, AreWide, IsOneMore, IsTally}
+use Rattle.scan.specs.RankCounter.{RankCounter, passing, below, PassesLower, counted, AreWide, IsOneMore, IsTally}
 
 -- ---- levels
 
@@ -252,17 +252,17 @@ module _ (came keys : List (List ℕ)) (levels new : List (List ℕ)) (key : Lis
   }
 
 -- a key that is recorded at its place, for borrowed lists and keys
-pub tally_with : (came : List (List ℕ)) (old : Tally) (keys lent_keys : List (List ℕ)) (levels lent_levels new made : List (List ℕ)) (key lent_key : List ℕ) (place : ℕ) → old ≡ (keys, levels) → lent_keys ≡ keys → lent_levels ≡ levels → lent_key ≡ key
+pub tally_with : (came : List (List ℕ)) (old : RankCounter) (keys lent_keys : List (List ℕ)) (levels lent_levels new made : List (List ℕ)) (key lent_key : List ℕ) (place : ℕ) → old ≡ (keys, levels) → lent_keys ≡ keys → lent_levels ≡ levels → lent_key ≡ key
     → (IsSorted order lent_keys → place ≡ below lent_key lent_keys) → IsNotedOn place lent_levels new → ((n : ℕ) → AreWide n lent_levels → AreWide n new) → made ≡ new → IsTally came old → Contains old.0 key → length came < 2 ^ 64 - 1
     → IsTally (came ++ key ∷ []) (keys, made)
 tally_with came old keys lent_keys levels lent_levels new made key lent_key place e k l q p n w g t c s =
-    let is : IsTally came (keys, levels) = subst (λ (x : Tally). IsTally came x) e t in
+    let is : IsTally came (keys, levels) = subst (λ (x : RankCounter). IsTally came x) e t in
     let at : place ≡ below key keys = p (subst (λ (x : List (List ℕ)). IsSorted order x) (sym k) is.sorted) ∙ ap (λ (x : List (List ℕ)). below lent_key x) k ∙ ap (λ (x : List ℕ). below x keys) q in
     let noted : IsNotedOn (below key keys) levels new = subst (λ (x : ℕ). IsNotedOn x levels new) at (subst (λ (x : List (List ℕ)). IsNotedOn place x new) l n) in
     subst (λ (x : List (List ℕ)). IsTally (came ++ key ∷ []) (keys, x)) (sym g)
-    (tally_noted came keys levels new key noted is (subst (λ (x : Tally). Contains x.0 key) e c) s (subst (λ (x : List (List ℕ)). (m : ℕ) → AreWide m x → AreWide m new) l w))
+    (tally_noted came keys levels new key noted is (subst (λ (x : RankCounter). Contains x.0 key) e c) s (subst (λ (x : List (List ℕ)). (m : ℕ) → AreWide m x → AreWide m new) l w))
 
-pub tally_passing : (test : List ℕ → Bool) (came : List (List ℕ)) (t : Tally) (lent_keys lent_levels : List (List ℕ)) (place sum : ℕ) → PassesLower test → lent_keys ≡ t.0 → lent_levels ≡ t.1 → (IsSorted order lent_keys → place ≡ passing test lent_keys)
+pub tally_passing : (test : List ℕ → Bool) (came : List (List ℕ)) (t : RankCounter) (lent_keys lent_levels : List (List ℕ)) (place sum : ℕ) → PassesLower test → lent_keys ≡ t.0 → lent_levels ≡ t.1 → (IsSorted order lent_keys → place ≡ passing test lent_keys)
     → sum ≡ min (counted lent_levels place) (2 ^ 64 - 1) → IsTally came t → length came ≤ 2 ^ 64 - 1 → sum ≡ passing test came
 tally_passing test came t lent_keys lent_levels place sum lower k l p s is small =
     let at : counted lent_levels place ≡ counted t.1 (passing test t.0) =

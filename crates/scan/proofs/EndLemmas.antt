@@ -17,8 +17,8 @@ use Rattle.mapping.specs.Levels.{Placed, joined, names, levels_of}
 use Rattle.mapping.specs.Proper.{next_low, IsTile, Tiled, AreLevels, HoldsLevels}
 use Rattle.mapping.specs.TreeInMemory.{TreeInMemory, tree_of}
 use Rattle.mapping.proofs.TileLemmas.{tiled_apart}
-use Rattle.scan.specs.Ends.{Taken, deleted, wiped, LacksAtMost, AreCertain}
-use Rattle.scan.specs.Taken.{Tallies, IsTaken}
+use Rattle.scan.specs.Ends.{Deletions, deleted, wiped, LacksAtMost, AreCertain}
+use Rattle.scan.specs.Deletions.{Tallies, IsTaken}
 use Rattle.scan.specs.Path.{leaf_pages, leaves_from}
 use Rattle.scan.specs.Walk.{walk_from}
 use Rattle.scan.proofs.Enough.{lacks}
@@ -118,14 +118,14 @@ module _ (t : TreeInMemory) (held : HoldsLevels (tree_of t).pages (levels_of (tr
 -- ---- a step of the walk
 
 -- at a leaf, `certain` pairs are certain before it, of each map that lacks no more than the keys say
-pub record AreCertainBefore (taken : Taken) (m : List (List ℕ × List ℕ)) (lo low : List ℕ) (certain : ℕ) : Type 0 where
+pub record AreCertainBefore (taken : Deletions) (m : List (List ℕ × List ℕ)) (lo low : List ℕ) (certain : ℕ) : Type 0 where
   pub each : (n : List (List ℕ × List ℕ)) → LacksAtMost taken m n → certain ≤ length (in_range lo (Some low) n)
 
-abbrev pub SharesOf : Taken → List ℕ → List ℕ → Page (List ℕ) → ℕ → Type 0
+abbrev pub SharesOf : Deletions → List ℕ → List ℕ → Page (List ℕ) → ℕ → Type 0
 SharesOf taken lo end leaf n =
     (m l : List (List ℕ × List ℕ)) → LacksAtMost taken m l → is_below leaf.low end ≡ true → page.entries leaf ≡ in_range leaf.low (Some end) m → AreCertain lo l leaf.low end n
 
-module _ (taken : Taken) (level : Level) (lo : List ℕ) (leaf next : Page (List ℕ)) (leaves pairs_after : Leaves) (passing : IsPassing level leaf leaves) (steps : leaves ≡ next ∷ pairs_after) where
+module _ (taken : Deletions) (level : Level) (lo : List ℕ) (leaf next : Page (List ℕ)) (leaves pairs_after : Leaves) (passing : IsPassing level leaf leaves) (steps : leaves ≡ next ∷ pairs_after) where
   at_next : IsPassing level leaf (next ∷ pairs_after)
   at_next = subst (λ (x : Leaves). IsPassing level leaf x) steps passing
 
@@ -181,7 +181,7 @@ module _ {A : Type 0} where
   -- so it continues from place to place
   pub ends_on : (keys : List (List ℕ)) (m : List (List ℕ × List ℕ)) (cs : List (Command A)) (place : ℕ) (c : Command A) (ends new : List (Option (Bor (List ℕ)))) (end : Option (Bor (List ℕ))) (t : Tallies)
       → place < length cs → c ≡ get_or cs place c → length ends ≡ place → new ≡ ends ++ end ∷ [] → IsTaken (deleted (take place cs), wiped (take place cs)) t
-      → ((gone : Taken) (n : List (List ℕ × List ℕ)) → IsTaken gone t → LacksAtMost gone m n → MayEndAt keys n c (option_copied end)) → MayEndAtAll keys m (take place cs) (map option_copied ends) → MayEndAtAll keys m (take (place + 1) cs) (map option_copied new)
+      → ((gone : Deletions) (n : List (List ℕ × List ℕ)) → IsTaken gone t → LacksAtMost gone m n → MayEndAt keys n c (option_copied end)) → MayEndAtAll keys m (take place cs) (map option_copied ends) → MayEndAtAll keys m (take (place + 1) cs) (map option_copied new)
   ends_on keys m cs place c ends new end t w is count e taken h a =
       let first : List (Command A) = take place cs in
       let here : MayEndAt keys (map_after_all m first) c (option_copied end) = h (deleted first, wiped first) (map_after_all m first) taken (lacks m first) in

@@ -19,8 +19,8 @@ use Rattle.keys.proofs.RangeLemmas.{none_in_range}
 use Rattle.delta_chain.specs.Layers.{Layers, with_change, with_run, entries_under, entries_of}
 use Rattle.index_page.proofs.RangeLemmas.{less_is_below, below_is_less, less_through, not_below_lower}
 use Rattle.page_search.specs.Places.{count_below}
-use Rattle.scan.specs.Tally.{below}
-use Rattle.scan.specs.Ends.{Taken, deleted_by, deleted, wiped_by, wiped, IsUntouched, count_within, LacksAtMost, AreCertain, later, keyed_below, named_below_under, named_below}
+use Rattle.scan.specs.RankCounter.{below}
+use Rattle.scan.specs.Ends.{Deletions, deleted_by, deleted, wiped_by, wiped, IsUntouched, count_within, LacksAtMost, AreCertain, later, keyed_below, named_below_under, named_below}
 
 -- ---- how many are kept of a list, one element at a time
 
@@ -204,7 +204,7 @@ lacks m cs = λ low end h. most_after_all (λ k. is_within low (Some end) k) m c
 -- ---- a leaf's share
 
 -- of a leaf from its low key on, what it has at least, less the keys that are deleted there
-pub some_certain : (lo low end : List ℕ) (taken : Taken) (m n es : Pairs) (fewest gone left : ℕ) → is_below low lo ≡ false → is_below low end ≡ true → IsUntouched low end taken.1 → LacksAtMost taken m n → es ≡ in_range low (Some end) m → fewest ≤ length es
+pub some_certain : (lo low end : List ℕ) (taken : Deletions) (m n es : Pairs) (fewest gone left : ℕ) → is_below low lo ≡ false → is_below low end ≡ true → IsUntouched low end taken.1 → LacksAtMost taken m n → es ≡ in_range low (Some end) m → fewest ≤ length es
     → count_within low end taken.0 ≤ gone → left ≡ fewest - gone → AreCertain lo n low end left
 some_certain lo low end taken m n es fewest gone left b h w l e f c s =
     let here : length es ≡ length (in_range low (Some end) m) = ap (λ (x : Pairs). length x) e in
@@ -311,7 +311,7 @@ module _ (lo : List ℕ) where
       parted_by (is_within low (Some end) e.0) (is_below e.0 lo) (is_below e.0 end) e (in_range low (Some end) m) (in_range lo (Some end) m) refl (before_by (is_below e.0 low) (is_below e.0 end)) (parted_range low end m)
 
 -- a scan that begins within the leaf has what the leaf has at least, less what it names below the scan, and what is deleted
-pub after_certain : (lo low end : List ℕ) (taken : Taken) (m n : Pairs) (p : Layers (List ℕ)) (fewest most named gone left : ℕ) → is_below low lo ≡ true → IsUntouched lo end taken.1 → LacksAtMost taken m n → entries_of p ≡ in_range low (Some end) m
+pub after_certain : (lo low end : List ℕ) (taken : Deletions) (m n : Pairs) (p : Layers (List ℕ)) (fewest most named gone left : ℕ) → is_below low lo ≡ true → IsUntouched lo end taken.1 → LacksAtMost taken m n → entries_of p ≡ in_range low (Some end) m
     → fewest ≤ length (entries_of p) → fewest ≤ most → named ≡ min (named_below lo p) most → count_within lo end taken.0 ≤ gone → left ≡ (fewest - named) - gone → AreCertain lo n low end left
 after_certain lo low end taken m n p fewest most named gone left b w l e f u s g r =
     let lack = l lo end w in

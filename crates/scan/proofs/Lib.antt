@@ -8,7 +8,7 @@ mod Counting
 mod CutLemmas
 mod EndLemmas
 pub mod Enough
-mod LateLemmas
+mod LazyLemmas
 mod LeafLemmas
 mod MergeLemmas
 mod MergeSteps

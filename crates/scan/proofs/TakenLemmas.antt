@@ -13,11 +13,11 @@ use Rattle.keys.specs.declared.command.Command.TheVariants.{Get, Put, Add, Del, 
 use Rattle.keys.proofs.MapLemmas.{total}
 use Rattle.index_page.proofs.MeetingLemmas.{both_begin}
 use Rattle.index_page.proofs.RangeLemmas.{less_is_below, below_is_less, less_through}
-use Rattle.scan.specs.Ends.{Taken, deleted_by, deleted, wiped_by, wiped, IsUntouched, count_within}
-use Rattle.scan.specs.Tally.{Tally, IsTally, below, up_to}
-use Rattle.scan.specs.declared.taken.TakenBelow.{TakenBelow}
+use Rattle.scan.specs.Ends.{Deletions, deleted_by, deleted, wiped_by, wiped, IsUntouched, count_within}
+use Rattle.scan.specs.RankCounter.{RankCounter, IsTally, below, up_to}
+use Rattle.scan.specs.declared.taken.DeletionsBelow.{DeletionsBelow}
 use Rattle.scan.proofs.Enough.{count_between}
-use Rattle.scan.specs.Taken.{lower_bounds, upper_bounds, lower_by, upper_by, all_lower, all_upper, filled, Tallies, AreWiped, IsTaken, IsTakenBelow, IsReadyFor, AreReady, HasKeysOf}
+use Rattle.scan.specs.Deletions.{lower_bounds, upper_bounds, lower_by, upper_by, all_lower, all_upper, filled, Tallies, AreWiped, IsTaken, IsTakenBelow, IsReadyFor, AreReady, HasKeysOf}
 
 abbrev Key : Type 0
 Key = List ℕ
@@ -97,7 +97,7 @@ module _ (low end : Key) (apart : is_below low end ≡ true) where
       let all = all_counted ranges in
       none_meets ranges k (omega (arith, all, h)) w
 
-  pub most_between : (gone : Taken) (before here : TakenBelow) (most : ℕ) → IsTakenBelow gone low before → IsTakenBelow gone end here → here.begun ≤ before.ended → most ≡ here.deleted - before.deleted → IsUntouched low end gone.1 × (count_within low end gone.0 ≤ most)
+  pub most_between : (gone : Deletions) (before here : DeletionsBelow) (most : ℕ) → IsTakenBelow gone low before → IsTakenBelow gone end here → here.begun ≤ before.ended → most ≡ here.deleted - before.deleted → IsUntouched low end gone.1 × (count_within low end gone.0 ≤ most)
   most_between gone before here most b h n m =
       let begun = h.begun in
       let ended = b.ended in
@@ -143,13 +143,13 @@ upper_more ranges lo hi h =
     ap upper_bounds (filled_more ranges lo hi h) ∙ flat_map-append (λ (range : Bounds). option_to_list range.1) (filled ranges) ((lo, hi) ∷ [])
     ∙ ap (λ (x : List Key). upper_bounds (filled ranges) ++ x) (append-nil (option_to_list hi))
 
-abbrev pub IsNotedIn : Key → Tally → Tally → Type 0
+abbrev pub IsNotedIn : Key → RankCounter → RankCounter → Type 0
 IsNotedIn key old new = (came : List Key) → IsTally came old → Contains old.0 key → length came < 2 ^ 64 - 1 → IsTally (came ++ key ∷ []) new
 
 longer : (ranges : List Bounds) (range : Bounds) → length ranges < 2 ^ 64 - 1 → length (ranges ++ range ∷ []) ≤ 2 ^ 64 - 1
 longer ranges range h = let l = length-append ranges (range ∷ []) in omega (arith, l, h)
 
-lower_noted : (ranges : List Bounds) (lo : Key) (hi : Option Key) (old new : Tally) → is_before hi lo ≡ true → IsNotedIn lo old new → IsTally (lower_bounds (filled ranges)) old → Contains old.0 lo → length ranges < 2 ^ 64 - 1
+lower_noted : (ranges : List Bounds) (lo : Key) (hi : Option Key) (old new : RankCounter) → is_before hi lo ≡ true → IsNotedIn lo old new → IsTally (lower_bounds (filled ranges)) old → Contains old.0 lo → length ranges < 2 ^ 64 - 1
     → IsTally (lower_bounds (filled (ranges ++ (lo, hi) ∷ []))) new
 lower_noted ranges lo hi old new b n t k s =
     let many = length-map (filled ranges) (λ (range : Bounds). range.0) in
@@ -157,7 +157,7 @@ lower_noted ranges lo hi old new b n t k s =
     subst (λ (x : List Key). IsTally x new) (sym (lower_more ranges lo hi b)) (n (lower_bounds (filled ranges)) t k (omega (arith, many, few, s)))
 
 -- a range without an upper bound
-wiped_above : (ranges : List Bounds) (lo : Key) (old : Tallies) (new : Tally) → IsNotedIn lo old.1 new → AreWiped ranges old → Contains old.1.0 lo → length ranges < 2 ^ 64 - 1 → AreWiped (ranges ++ (lo, None) ∷ []) (old.0, new, old.2)
+wiped_above : (ranges : List Bounds) (lo : Key) (old : Tallies) (new : RankCounter) → IsNotedIn lo old.1 new → AreWiped ranges old → Contains old.1.0 lo → length ranges < 2 ^ 64 - 1 → AreWiped (ranges ++ (lo, None) ∷ []) (old.0, new, old.2)
 wiped_above ranges lo old new n w k s = record {
   lower = lower_noted ranges lo None old.1 new refl n w.lower k s;
   upper = subst (λ (x : List Key). IsTally x old.2) (sym (upper_more ranges lo None refl ∙ append-nil (upper_bounds (filled ranges)))) w.upper;
@@ -165,7 +165,7 @@ wiped_above ranges lo old new n w k s = record {
 }
 
 -- one with an upper bound above its lower one
-wiped_between : (ranges : List Bounds) (lo hi : Key) (old : Tallies) (new upper : Tally) → is_below lo hi ≡ true → IsNotedIn lo old.1 new → IsNotedIn hi old.2 upper → AreWiped ranges old → Contains old.1.0 lo → Contains old.2.0 hi → length ranges < 2 ^ 64 - 1
+wiped_between : (ranges : List Bounds) (lo hi : Key) (old : Tallies) (new upper : RankCounter) → is_below lo hi ≡ true → IsNotedIn lo old.1 new → IsNotedIn hi old.2 upper → AreWiped ranges old → Contains old.1.0 lo → Contains old.2.0 hi → length ranges < 2 ^ 64 - 1
     → AreWiped (ranges ++ (lo, Some hi) ∷ []) (old.0, new, upper)
 wiped_between ranges lo hi old new upper b n u w k l s =
     let few = fewer_filled ranges in
@@ -185,13 +185,13 @@ wiped_nothing ranges lo hi old b w s = record {
 }
 
 -- the same for borrowed tallies and keys
-pub wiped_above_lent : (ranges : List Bounds) (lo lent_lo : Key) (hi : Option Key) (old : Tallies) (deleted lower upper new : Tally) → old ≡ (deleted, lower, upper) → lent_lo ≡ lo → hi ≡ None → IsNotedIn lent_lo lower new → AreWiped ranges old → Contains old.1.0 lo
+pub wiped_above_lent : (ranges : List Bounds) (lo lent_lo : Key) (hi : Option Key) (old : Tallies) (deleted lower upper new : RankCounter) → old ≡ (deleted, lower, upper) → lent_lo ≡ lo → hi ≡ None → IsNotedIn lent_lo lower new → AreWiped ranges old → Contains old.1.0 lo
     → length ranges < 2 ^ 64 - 1 → AreWiped (ranges ++ (lo, hi) ∷ []) (deleted, new, upper)
 wiped_above_lent ranges lo lent_lo hi old deleted lower upper new e l h n w k s =
     subst (λ (x : Option Key). AreWiped (ranges ++ (lo, x) ∷ []) (deleted, new, upper)) (sym h)
     (wiped_above ranges lo (deleted, lower, upper) new (subst (λ (x : Key). IsNotedIn x lower new) l n) (subst (λ (x : Tallies). AreWiped ranges x) e w) (subst (λ (x : Tallies). Contains x.1.0 lo) e k) s)
 
-pub wiped_between_lent : (ranges : List Bounds) (lo lent_lo hi lent_hi : Key) (end : Option Key) (old : Tallies) (deleted lower upper new_lower new_upper : Tally) → old ≡ (deleted, lower, upper) → lent_lo ≡ lo → lent_hi ≡ hi → end ≡ Some hi → is_below lo hi ≡ true
+pub wiped_between_lent : (ranges : List Bounds) (lo lent_lo hi lent_hi : Key) (end : Option Key) (old : Tallies) (deleted lower upper new_lower new_upper : RankCounter) → old ≡ (deleted, lower, upper) → lent_lo ≡ lo → lent_hi ≡ hi → end ≡ Some hi → is_below lo hi ≡ true
     → IsNotedIn lent_lo lower new_lower → IsNotedIn lent_hi upper new_upper → AreWiped ranges old → Contains old.1.0 lo → IfSome end (λ k. Contains old.2.0 k) → length ranges < 2 ^ 64 - 1 → AreWiped (ranges ++ (lo, end) ∷ []) (deleted, new_lower, new_upper)
 wiped_between_lent ranges lo lent_lo hi lent_hi end old deleted lower upper new_lower new_upper e l m h b n u w k i s =
     subst (λ (x : Option Key). AreWiped (ranges ++ (lo, x) ∷ []) (deleted, new_lower, new_upper)) (sym h)
@@ -200,10 +200,10 @@ wiped_between_lent ranges lo lent_lo hi lent_hi end old deleted lower upper new_
 
 -- ---- what is deleted below a key
 
-abbrev pub IsCountedIn : (Key → List Key → ℕ) → Key → Tally → ℕ → Type 0
+abbrev pub IsCountedIn : (Key → List Key → ℕ) → Key → RankCounter → ℕ → Type 0
 IsCountedIn count key t n = (came : List Key) → IsTally came t → length came ≤ 2 ^ 64 - 1 → n ≡ count key came
 
-pub taken_below : (gone : Taken) (t : Tallies) (deleted lower upper : Tally) (key lent : Key) (gone_below begun ended : ℕ) → t ≡ (deleted, lower, upper) → lent ≡ key → IsCountedIn below lent deleted gone_below → IsCountedIn below lent lower begun → IsCountedIn up_to lent upper ended → IsTaken gone t
+pub taken_below : (gone : Deletions) (t : Tallies) (deleted lower upper : RankCounter) (key lent : Key) (gone_below begun ended : ℕ) → t ≡ (deleted, lower, upper) → lent ≡ key → IsCountedIn below lent deleted gone_below → IsCountedIn below lent lower begun → IsCountedIn up_to lent upper ended → IsTaken gone t
     → IsTakenBelow gone key record { deleted = gone_below; begun = begun; ended = ended }
 taken_below gone t deleted lower upper key lent gone_below begun ended e l d f u h =
     let is : IsTaken gone (deleted, lower, upper) = subst (λ (x : Tallies). IsTaken gone x) e h in
@@ -220,7 +220,7 @@ taken_below gone t deleted lower upper key lent gone_below begun ended e l d f u
 -- ---- a command more
 
 module _ {A : Type 0} where
-  taken_by_del : (gone : Taken) (old : Tallies) (new : Tally) (c : Command A) (key : Key) → c ≡ Del key → IsNotedIn key old.0 new → IsTaken gone old → IsReadyFor c old → length gone.0 < 2 ^ 64 - 1
+  taken_by_del : (gone : Deletions) (old : Tallies) (new : RankCounter) (c : Command A) (key : Key) → c ≡ Del key → IsNotedIn key old.0 new → IsTaken gone old → IsReadyFor c old → length gone.0 < 2 ^ 64 - 1
       → IsTaken (gone.0 ++ deleted_by c, gone.1 ++ wiped_by c) (new, old.1, old.2)
   taken_by_del gone old new c key e n t r s =
       let ready = subst (λ (d : Command A). IsReadyFor d old) e r in
@@ -230,7 +230,7 @@ module _ {A : Type 0} where
       subst (λ (d : Command A). IsTaken (gone.0 ++ deleted_by d, gone.1 ++ wiped_by d) (new, old.1, old.2)) (sym e)
       (subst (λ (x : List Bounds). IsTaken (gone.0 ++ key ∷ [], x) (new, old.1, old.2)) (sym (append-nil gone.1)) here)
 
-  pub taken_by_del_lent : (gone : Taken) (old : Tallies) (deleted lower upper new : Tally) (c : Command A) (key lent : Key) → old ≡ (deleted, lower, upper) → c ≡ Del key → lent ≡ key → IsNotedIn lent deleted new → IsTaken gone old → IsReadyFor c old → length gone.0 < 2 ^ 64 - 1
+  pub taken_by_del_lent : (gone : Deletions) (old : Tallies) (deleted lower upper new : RankCounter) (c : Command A) (key lent : Key) → old ≡ (deleted, lower, upper) → c ≡ Del key → lent ≡ key → IsNotedIn lent deleted new → IsTaken gone old → IsReadyFor c old → length gone.0 < 2 ^ 64 - 1
       → IsTaken (gone.0 ++ deleted_by c, gone.1 ++ wiped_by c) (new, lower, upper)
   taken_by_del_lent gone old deleted lower upper new c key lent e is l n t r s =
       taken_by_del gone (deleted, lower, upper) new c key is (subst (λ (x : Key). IsNotedIn x deleted new) l n) (subst (λ (x : Tallies). IsTaken gone x) e t) (subst (λ (x : Tallies). IsReadyFor c x) e r) s
@@ -301,7 +301,7 @@ module _ {A : Type 0} where
       ∙ ap (λ (x : List X). flat_map f (take place cs) ++ x) (append-nil (f (get_or cs place c))) ∙ ap (λ (d : Command A). flat_map f (take place cs) ++ f d) (sym e)
 
   pub taken_on : (cs : List (Command A)) (place : ℕ) (c : Command A) (old new : Tallies) → place < length cs → place < 2 ^ 64 - 1 → c ≡ get_or cs place c → AreReady cs old
-      → ((gone : Taken) → IsTaken gone old → IsReadyFor c old → length gone.0 < 2 ^ 64 - 1 → length gone.1 < 2 ^ 64 - 1 → IsTaken (gone.0 ++ deleted_by c, gone.1 ++ wiped_by c) new)
+      → ((gone : Deletions) → IsTaken gone old → IsReadyFor c old → length gone.0 < 2 ^ 64 - 1 → length gone.1 < 2 ^ 64 - 1 → IsTaken (gone.0 ++ deleted_by c, gone.1 ++ wiped_by c) new)
       → IsTaken (deleted (take place cs), wiped (take place cs)) old → IsTaken (deleted (take (place + 1) cs), wiped (take (place + 1) cs)) new
   taken_on cs place c old new l s e r n t =
       let long = length-take place cs in

@@ -24,7 +24,7 @@ use Rattle.mapping.proofs.TileLemmas.{next_low-append, tiled-append, next_names,
 use Rattle.mapping.proofs.Joined.{next_joined}
 use Rattle.scan.specs.Path.{entries_at, leaves_under, leaves_from_first, leaves_from, leaf_under, leaf_pages, pairs, IsKnown}
 use Rattle.scan.specs.Leaf.{from}
-use Rattle.scan.proofs.CutLemmas.{Names, cut}
+use Rattle.scan.proofs.CutLemmas.{Separators, cut}
 use Rattle.scan.proofs.PathLemmas.{leaves_under-append, leaves_under-one, leaf_pages-append, under-none}
 
 -- ---- pairs from a key on
@@ -72,7 +72,7 @@ module _ (ps : List (ℕ × PageOfKind)) where
   begins_below zero at s = s.2
   begins_below (suc n) at s = s.2
 
-  known_children : (n : ℕ) (es : Names) (end : Option (List ℕ)) → ((at : Place) → IsSubtree n at → IsKnown ps n at.pid) → AllByRecursion (IsSubtree n) (children es end) → AllByRecursion (IsKnown ps n) (values_of es)
+  known_children : (n : ℕ) (es : Separators) (end : Option (List ℕ)) → ((at : Place) → IsSubtree n at → IsKnown ps n at.pid) → AllByRecursion (IsSubtree n) (children es end) → AllByRecursion (IsKnown ps n) (values_of es)
   known_children n [] end f a = tt
   known_children n (e ∷ es) end f a =
       let b = subst (λ (ats : List Place). AllByRecursion (IsSubtree n) ats) (children-cons e es end) a in
@@ -83,7 +83,7 @@ module _ (ps : List (ℕ × PageOfKind)) where
   is_known (suc n) at s = (s.0, s.3, s.4, known_children n (entries_at ps at.pid) at.end (λ at s. is_known n at s) s.5)
 
   -- so the leaves below children tile the range of these, and begin where the first of them does
-  pub record AreTiles (n : ℕ) (es : Names) (end : Option (List ℕ)) : Type 0 where
+  pub record AreTiles (n : ℕ) (es : Separators) (end : Option (List ℕ)) : Type 0 where
     pub tiled : Tiled (leaves n (values_of es)) end
     pub begins : (x : Option (List ℕ)) → next_low (leaves n (values_of es)) x ≡ next_key es x
 
@@ -95,7 +95,7 @@ module _ (ps : List (ℕ × PageOfKind)) where
         begins = λ x. ap (λ (ls : List (Placed (List ℕ))). next_low ls x) none;
       }
 
-  pub tiles : (n : ℕ) (es : Names) (end : Option (List ℕ)) → AllByRecursion (IsSubtree n) (children es end) → AreTiles n es end
+  pub tiles : (n : ℕ) (es : Separators) (end : Option (List ℕ)) → AllByRecursion (IsSubtree n) (children es end) → AreTiles n es end
   tiles n [] end a = no_tiles n end
   tiles n (e ∷ es) end a =
       let b = subst (λ (ats : List Place). AllByRecursion (IsSubtree n) ats) (children-cons e es end) a in
@@ -125,7 +125,7 @@ module _ (ps : List (ℕ × PageOfKind)) where
       ) in
       subst (λ (ats : List Place). AllByRecursion (IsSubtree zero) ats) (sym (children-cons (name p) (names level) end)) (here, leaf_subtrees level end h.1 t.1)
 
-  first_next : (es : Names) (low : List ℕ) (x : Option (List ℕ)) → 0 < length es → first_key es ≡ low → next_key es x ≡ Some low
+  first_next : (es : Separators) (low : List ℕ) (x : Option (List ℕ)) → 0 < length es → first_key es ≡ low → next_key es x ≡ Some low
   first_next [] low x n e = absurd (omega arith)
   first_next (e ∷ es) low x n f = ap (λ (k : List ℕ). Some k) f
 
@@ -135,14 +135,14 @@ module _ (ps : List (ℕ × PageOfKind)) where
       let es : entries_at ps u.pid ≡ entries u = ap (λ (q : Page ℕ). entries_of q.layers) page in
       let t = tiles n (entries u) end a in
       let own : leaves (suc n) (u.pid ∷ []) ≡ leaves n (values_of (entries u)) =
-      ap (λ (x : List ℕ). map (leaf_at ps) x) (leaves_under-one ps n u.pid) ∙ ap (λ (x : Names). leaves n (values_of x)) es in
+      ap (λ (x : List ℕ). map (leaf_at ps) x) (leaves_under-one ps n u.pid) ∙ ap (λ (x : Separators). leaves n (values_of x)) es in
       let some = d.some in (
         h ∙ ap (λ (q : Page ℕ). Some (Index q)) (sym page),
         subst (λ (ls : List (Placed (List ℕ))). Tiled ls end) (sym own) t.tiled,
         λ x. ap (λ (ls : List (Placed (List ℕ))). next_low ls x) own ∙ t.begins x ∙ first_next (entries u) u.page.low x (omega (arith, some)) d.first,
-        subst (λ (x : Names). IsRising x) (sym es) r,
-        subst (λ (x : Names). 0 < length x) (sym es) (omega (arith, some)),
-        subst (λ (x : Names). AllByRecursion (IsSubtree n) (children x end)) (sym es) a,
+        subst (λ (x : Separators). IsRising x) (sym es) r,
+        subst (λ (x : Separators). 0 < length x) (sym es) (omega (arith, some)),
+        subst (λ (x : Separators). AllByRecursion (IsSubtree n) (children x end)) (sym es) a,
       )
 
   pub index_subtrees : (n : ℕ) (up : List (Placed ℕ)) (end : Option (List ℕ)) → HasIndexPages ps up → AllByRecursion (λ u. IsHeaded 1 u.page) up → Tiled up end
@@ -174,7 +174,7 @@ module _ (ps : List (ℕ × PageOfKind)) where
   root_subtree n k level [] o h f e a = one_root n k level o f (omega (arith, e)) a
   root_subtree n k level (up ∷ ups) o h f e a =
       let above : next_low up None ≡ Some [] = sym (next_low-parents up level o.0.linked o.0.headed) ∙ f in
-      let b = index_subtrees n up None h.0 o.0.headed o.0.tiled (subst (λ (ns : Names). AllByRecursion (IsSubtree n) (children ns None)) (sym o.0.linked) a) in
+      let b = index_subtrees n up None h.0 o.0.headed o.0.tiled (subst (λ (ns : Separators). AllByRecursion (IsSubtree n) (children ns None)) (sym o.0.linked) a) in
       root_subtree (suc n) k up ups o.1 h.1 above (omega (arith, e)) b
 
   -- ---- the root and the height of the levels of a tree
@@ -249,7 +249,7 @@ module _ (ps : List (ℕ × PageOfKind)) where
       from_lower key p.page.low (keys_of (joined (p ∷ ls))) (subst (λ (j : List ℕ). order key j ≡ Less) (sym same) l) (from-joined p ls end t)
 
   -- the pairs below children that begin above the key
-  from-rest : (n : ℕ) (key : List ℕ) (es : Names) (end : Option (List ℕ)) → AllByRecursion (IsSubtree n) (children es end) → AllByRecursion (λ j. order key j ≡ Less) (keys_of es)
+  from-rest : (n : ℕ) (key : List ℕ) (es : Separators) (end : Option (List ℕ)) → AllByRecursion (IsSubtree n) (children es end) → AllByRecursion (λ j. order key j ≡ Less) (keys_of es)
       → from key (pairs (leaf_pages ps (leaves_under ps n (values_of es)))) ≡ pairs (leaf_pages ps (leaves_under ps n (values_of es)))
   from-rest n key [] end a b = ap (λ (x : List ℕ). from key (pairs (leaf_pages ps x))) (under-none ps n) ∙ sym (ap (λ (x : List ℕ). pairs (leaf_pages ps x)) (under-none ps n))
   from-rest n key (e ∷ es) end a b =
@@ -259,7 +259,7 @@ module _ (ps : List (ℕ × PageOfKind)) where
       (subst (λ (x : List (List ℕ × List ℕ)). AreFrom key (keys_of x)) (joined-leaves (leaves_under ps n (values_of (e ∷ es)))) keys)
 
   -- the pairs below children that end where the key is, or before it
-  from-before : (n : ℕ) (key low : List ℕ) (es : Names) → AllByRecursion (IsSubtree n) (children es (Some low)) → is_below key low ≡ false → from key (pairs (leaf_pages ps (leaves_under ps n (values_of es)))) ≡ []
+  from-before : (n : ℕ) (key low : List ℕ) (es : Separators) → AllByRecursion (IsSubtree n) (children es (Some low)) → is_below key low ≡ false → from key (pairs (leaf_pages ps (leaves_under ps n (values_of es)))) ≡ []
   from-before n key low es a h =
       let t = tiles n es (Some low) a in
       let keys : AreBelow low (keys_of (joined (leaves n (values_of es)))) = before-joined (leaves n (values_of es)) (Some low) t.tiled in
@@ -276,24 +276,24 @@ module _ (ps : List (ℕ × PageOfKind)) where
     kept = ap (λ (x : List (List ℕ × List ℕ)). from key x) (append-nil (page.entries (leaf_under ps at.pid))) ∙ sym (append-nil (from key (page.entries (leaf_under ps at.pid))));
   }
   way_down (suc n) key at s =
-      let es : Names = entries_at ps at.pid in
+      let es : Separators = entries_at ps at.pid in
       let c = cut key es s.3 s.4 in
       let under : List ℕ → List ℕ = λ pids. leaves_under ps n pids in
       let all = all_apart (IsSubtree n) (children c.before (Some c.first.0)) (children (c.first ∷ c.rest) at.end)
-      (subst (λ (ats : List Place). AllByRecursion (IsSubtree n) ats) (ap (λ (x : Names). children x at.end) c.parts ∙ children-append c.before (c.first ∷ c.rest) at.end) s.5) in
+      (subst (λ (ats : List Place). AllByRecursion (IsSubtree n) ats) (ap (λ (x : Separators). children x at.end) c.parts ∙ children-append c.before (c.first ∷ c.rest) at.end) s.5) in
       let others = subst (λ (ats : List Place). AllByRecursion (IsSubtree n) ats) (children-cons c.first c.rest at.end) all.1 in
       let below : from key (pairs (leaf_pages ps (under (values_of c.before)))) ≡ [] = elim c.here [
-        | inl e ↦ ap (λ (x : Names). from key (pairs (leaf_pages ps (under (values_of x))))) e ∙ ap (λ (x : List ℕ). from key (pairs (leaf_pages ps x))) (under-none ps n)
+        | inl e ↦ ap (λ (x : Separators). from key (pairs (leaf_pages ps (under (values_of x))))) e ∙ ap (λ (x : List ℕ). from key (pairs (leaf_pages ps x))) (under-none ps n)
         | inr h ↦ from-before n key c.first.0 c.before all.0 h
       ] in
       let whole : leaves_under ps (suc n) (at.pid ∷ []) ≡ under (values_of c.before) ++ (under (c.first.1 ∷ []) ++ under (values_of c.rest)) =
       leaves_under-one ps n at.pid
-      ∙ ap (λ (x : Names). under (values_of x)) c.parts
+      ∙ ap (λ (x : Separators). under (values_of x)) c.parts
       ∙ ap (λ (x : List ℕ). under x) (map-append (λ (e : List ℕ × ℕ). e.1) c.before (c.first ∷ c.rest))
       ∙ leaves_under-append ps n (values_of c.before) (c.first.1 ∷ values_of c.rest)
       ∙ ap (λ (x : List ℕ). under (values_of c.before) ++ x) (leaves_under-append ps n (c.first.1 ∷ []) (values_of c.rest)) in
       let found : leaves_from ps (suc n) key at.pid ≡ leaves_from ps n key c.first.1 ++ under (values_of c.rest) =
-      ap (λ (x : Names). leaves_from_first (λ (e : List ℕ × ℕ). leaves_from ps n key e.1) (leaves_under ps n) x) c.kept in
+      ap (λ (x : Separators). leaves_from_first (λ (e : List ℕ × ℕ). leaves_from ps n key e.1) (leaves_under ps n) x) c.kept in
       subst (λ (x : List ℕ). IsFrom key (leaves_under ps (suc n) (at.pid ∷ [])) x) (sym found)
       (three_parts key (under (values_of c.before)) (under (c.first.1 ∷ [])) (under (values_of c.rest)) (leaves_under ps (suc n) (at.pid ∷ [])) (leaves_from ps n key c.first.1) whole below
       (from-rest n key c.rest at.end others.1 c.pairs_after) (way_down n key (place_of c.first (next_key c.rest at.end)) others.0))

@@ -2,7 +2,7 @@
 use Rattle.std.specs.Prelude.{◌≡◌, ℕ, zero, suc, pred, ◌-◌, Bool, true, not, List, [], ◌∷◌, ◌++◌, take, reverse, Option, Some, None, count_by}
 use Rattle.std.specs.List.{AllByRecursion, filter, take_while}
 use Rattle.std.specs.Map.{values_of}
-use Rattle.keys.specs.Bytes.{Bytes, Pairs, Changes, Names}
+use Rattle.keys.specs.Bytes.{Bytes, Pairs, Changes, Separators}
 use Rattle.keys.specs.OrderedMap.{value_at}
 use Rattle.keys.specs.Range.{is_below, is_before, in_range}
 use Rattle.delta_chain.specs.Layers.{Layers}
@@ -90,17 +90,17 @@ pub record AreNamedUpTo {V : Type 0} (k : Bytes) (hi : Option Bytes) (p : Layers
 -- ---- the leaves of a tree, from right to left
 
 -- the pids of a page's children before a place, if there is such a page
-abbrev pub pids_before : Option (Names × ℕ) → List ℕ
+abbrev pub pids_before : Option (Separators × ℕ) → List ℕ
 pids_before None = []
 pids_before (Some c) = values_of (take c.1 c.0)
 
 -- the children whose low keys are before an end, and always the first child
-abbrev pub children_before : Option Bytes → Names → Names
+abbrev pub children_before : Option Bytes → Separators → Separators
 children_before hi [] = []
 children_before hi (e ∷ es) = e ∷ before hi es
 
 -- all leaves below some children except the last one, and then those that are found below the last one
-abbrev pub leaves_to_last : (Bytes × ℕ → List ℕ) → (List ℕ → List ℕ) → Names → List ℕ
+abbrev pub leaves_to_last : (Bytes × ℕ → List ℕ) → (List ℕ → List ℕ) → Separators → List ℕ
 leaves_to_last last under [] = []
 leaves_to_last last under (e ∷ []) = last e
 leaves_to_last last under (e ∷ f ∷ es) = under (e.1 ∷ []) ++ leaves_to_last last under (f ∷ es)

@@ -3,29 +3,29 @@ use Rattle.std.specs.Prelude.{◌≡◌, ℕ, ◌+◌, ◌≤◌, true, false, L
 use Rattle.std.specs.List.{AllByRecursion, filter}
 use Rattle.keys.specs.Bytes.{Bytes, Pairs, Changes}
 use Rattle.delta_chain.specs.Layers.{Layers}
-use Rattle.keys.specs.Footprint.{Deed, Takes, Span, One, Range, deed_of, span_of}
+use Rattle.keys.specs.Footprint.{Access, Takes, Span, One, Range, access_of, span_of}
 use Rattle.keys.specs.Range.{is_below, is_within, in_range}
 use Rattle.keys.specs.declared.command.Command.{Command}
 
 -- the key that a command deletes, if it deletes a single key
-abbrev pub key_taken : Deed → Span → List Bytes
+abbrev pub key_taken : Access → Span → List Bytes
 key_taken Takes (One k) = k ∷ []
 key_taken deed span = []
 
 abbrev pub deleted_by : {A : Type 0} → Command A → List Bytes
-deleted_by c = key_taken (deed_of c) (span_of c)
+deleted_by c = key_taken (access_of c) (span_of c)
 
 -- the keys that commands delete, with repetitions
 abbrev pub deleted : {A : Type 0} → List (Command A) → List Bytes
 deleted cs = flat_map deleted_by cs
 
 -- the range of keys that a command deletes, if it does: its lower bound, and its upper bound, if it has one
-abbrev pub range_taken : Deed → Span → List (Bytes × Option Bytes)
+abbrev pub range_taken : Access → Span → List (Bytes × Option Bytes)
 range_taken Takes (Range lo hi) = (lo, hi) ∷ []
 range_taken deed span = []
 
 abbrev pub wiped_by : {A : Type 0} → Command A → List (Bytes × Option Bytes)
-wiped_by c = range_taken (deed_of c) (span_of c)
+wiped_by c = range_taken (access_of c) (span_of c)
 
 -- the ranges that commands delete
 abbrev pub wiped : {A : Type 0} → List (Command A) → List (Bytes × Option Bytes)
@@ -36,8 +36,8 @@ abbrev pub IsUntouched : Bytes → Bytes → List (Bytes × Option Bytes) → Ty
 IsUntouched low end ranges = (k : Bytes) → is_within low (Some end) k ≡ true → AllByRecursion (λ range. is_within range.0 range.1 k ≡ false) ranges
 
 -- deleted keys and deleted ranges of keys
-abbrev pub Taken : Type 0
-Taken = List Bytes × List (Bytes × Option Bytes)
+abbrev pub Deletions : Type 0
+Deletions = List Bytes × List (Bytes × Option Bytes)
 
 -- how many of the keys are at or above the low key and below the end
 abbrev pub count_within : Bytes → Bytes → List Bytes → ℕ
@@ -45,7 +45,7 @@ count_within low end keys = length (filter (λ k. is_within low (Some end) k) ke
 
 -- at or above a low key and below an end, the second map lacks at most as many of the first one's pairs as there are deleted keys, provided that no
 -- key there lies in a deleted range
-abbrev pub LacksAtMost : Taken → Pairs Bytes → Pairs Bytes → Type 0
+abbrev pub LacksAtMost : Deletions → Pairs Bytes → Pairs Bytes → Type 0
 LacksAtMost taken m n = (low end : Bytes) → IsUntouched low end taken.1 →
     length (in_range low (Some end) m) ≤ length (in_range low (Some end) n) + count_within low end taken.0
 

@@ -8,7 +8,7 @@ pub mod Left
 pub mod Merge
 pub mod Path
 pub mod Prefix
-pub mod Taken
-pub mod Tally
+pub mod Deletions
+pub mod RankCounter
 pub mod Walk
 pub mod Ways

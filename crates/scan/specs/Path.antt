@@ -2,7 +2,7 @@
 use Rattle.std.specs.Prelude.{◌≡◌, ℕ, zero, suc, ◌<◌, ⊤, List, [], ◌∷◌, ◌++◌, map, flat_map, length, drop, Option, Some, None}
 use Rattle.std.specs.List.{AllByRecursion}
 use Rattle.std.specs.Map.{values_of}
-use Rattle.keys.specs.Bytes.{Bytes, Pairs, Names}
+use Rattle.keys.specs.Bytes.{Bytes, Pairs, Separators}
 use Rattle.keys.specs.Order.{IsRising}
 use Rattle.delta_chain.specs.Layers.{Layers}
 use Rattle.index_page.specs.Page.{Page, PageOfKind, entries}
@@ -12,12 +12,12 @@ use Rattle.mapping.specs.Tree.{page_at}
 use Rattle.mapping.specs.Levels.{joined, as_leaf, as_index, index_at}
 
 -- the pids of a page's children from a place on, if there is such a page
-abbrev pub pids_left : Option (Names × ℕ) → List ℕ
+abbrev pub pids_left : Option (Separators × ℕ) → List ℕ
 pids_left None = []
 pids_left (Some c) = values_of (drop c.1 c.0)
 
 -- the entries of the index page under a pid
-abbrev pub entries_at : List (ℕ × PageOfKind) → ℕ → Names
+abbrev pub entries_at : List (ℕ × PageOfKind) → ℕ → Separators
 entries_at ps pid = entries (as_index (page_at ps pid))
 
 -- the pids of the leaves n levels below these pages, in order
@@ -26,7 +26,7 @@ leaves_under ps zero pids = pids
 leaves_under ps (suc n) pids = leaves_under ps n (values_of (joined (map (index_at ps) pids)))
 
 -- the leaves that are found below the first child, followed by all leaves below the other children
-abbrev pub leaves_from_first : (Bytes × ℕ → List ℕ) → (List ℕ → List ℕ) → Names → List ℕ
+abbrev pub leaves_from_first : (Bytes × ℕ → List ℕ) → (List ℕ → List ℕ) → Separators → List ℕ
 leaves_from_first first under [] = []
 leaves_from_first first under (e ∷ es) = first e ++ under (values_of es)
 

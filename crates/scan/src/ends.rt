@@ -13,11 +13,11 @@ ghost use Rattle.mapping.specs.Tree.{most_levels};
 ghost use Rattle.mapping.specs.TreeInMemory.{AreAllHome, tree_of};
 ghost use Rattle.scan.specs.Ends.{LacksAtMost, AreCertain, later, named_below};
 ghost use Rattle.scan.specs.Ends as ends;
-ghost use Rattle.scan.specs.Taken.{AreReady, IsTaken, IsTakenBelow};
+ghost use Rattle.scan.specs.Deletions.{AreReady, IsTaken, IsTakenBelow};
 
 use crate::ahead::place_from;
 use crate::leaves::Leaves;
-use crate::taken::{Taken, TakenBelow};
+use crate::taken::{Deletions, DeletionsBelow};
 use delta_chain::Chain;
 use keys::{Command, Value, compare, is_before};
 use mapping::Tree;
@@ -57,7 +57,7 @@ pub fn scan_ends<'a>(
     if !has_scan(commands) {
         return Ok(Some(Vec::new(alloc)));
     }
-    let mut taken = Taken::before_all(alloc, commands)?;
+    let mut taken = Deletions::before_all(alloc, commands)?;
     all_ends(alloc, tree, commands, &mut taken, room)
 }
 
@@ -149,7 +149,7 @@ fn all_ends<'a>(
     alloc: Global,
     tree: &'a Tree<Global>,
     commands: &[Command<Global>],
-    taken: &mut Taken<'_>,
+    taken: &mut Deletions<'_>,
     room: usize,
 ) -> Result<Option<Vec<Option<&'a [u8]>>>, AllocError>
     requires home { AreAllHome tree.now }
@@ -190,14 +190,14 @@ fn end_of<'a>(
     alloc: Global,
     tree: &'a Tree<Global>,
     command: &Command<Global>,
-    taken: &Taken<'_>,
+    taken: &Deletions<'_>,
     room: &mut usize,
 ) -> Option<&'a [u8]>
     requires home { AreAllHome tree.now }
     requires height { tree.now.height ≤ most_levels }
     requires held { HoldsItsLevels (tree_of tree.now) }
     requires levels { AreLevels (levels_of (tree_of tree.now)) }
-    ensures { (gone : ends.Taken) (m : Pairs Bytes) → IsTaken gone taken.now
+    ensures { (gone : ends.Deletions) (m : Pairs Bytes) → IsTaken gone taken.now
         → LacksAtMost gone (contents (tree_of tree.now)) m
         → MayEndAt (keys_of (names (levels_of (tree_of tree.now)).level))
         m command.now (option_copied result) }
@@ -227,14 +227,14 @@ fn end_of_scan<'a>(
     lo: &[u8],
     hi: Option<&[u8]>,
     limit: u32,
-    taken: &Taken<'_>,
+    taken: &Deletions<'_>,
     room: &mut usize,
 ) -> Option<&'a [u8]>
     requires home { AreAllHome tree.now }
     requires height { tree.now.height ≤ most_levels }
     requires held { HoldsItsLevels (tree_of tree.now) }
     requires levels { AreLevels (levels_of (tree_of tree.now)) }
-    ensures { (gone : ends.Taken) (m : Pairs Bytes) → IsTaken gone taken.now
+    ensures { (gone : ends.Deletions) (m : Pairs Bytes) → IsTaken gone taken.now
         → LacksAtMost gone (contents (tree_of tree.now)) m
         → IfSome result (λ end. IsEnough (keys_of (names (levels_of (tree_of tree.now)).level))
         m lo.now (option_copied hi.entry) limit end.now) }
@@ -293,10 +293,10 @@ fn certain_pairs(
     chain: &Chain<Value<Global>, Global>,
     low: &[u8],
     lo: &[u8],
-    before: &TakenBelow,
-    here: &TakenBelow,
+    before: &DeletionsBelow,
+    here: &DeletionsBelow,
 ) -> usize
-    ensures { (gone : ends.Taken) (end : Bytes) (m n : Pairs Bytes)
+    ensures { (gone : ends.Deletions) (end : Bytes) (m n : Pairs Bytes)
         → IsTakenBelow gone (later low.now lo.now) before.now → IsTakenBelow gone end here.now
         → LacksAtMost gone m n
         → is_below low.now end ≡ true → is_below lo.now end ≡ true

@@ -1,14 +1,14 @@
 //! Iterates over the leaves of a tree from left to right.
 ghost use Rattle.std.specs.Prelude.{◌≡◌, ◌∷◌, ◌++◌, [], ◌≤◌, length, MatchOption};
 ghost use Rattle.std.specs.Iterator.{YieldsFirstBy, item_count};
-ghost use Rattle.delta_chain.specs.Late.{seen};
+ghost use Rattle.delta_chain.specs.Lazy.{seen};
 ghost use Rattle.mapping.specs.Tree.{most_levels};
 ghost use Rattle.mapping.specs.TreeInMemory.{AreAllHome};
 ghost use Rattle.scan.specs.Path.{leaf_with};
 ghost use Rattle.scan.specs.Walk.{IsWalk, IsAt, walk_from, walk_left};
 
 use crate::step::PathStep;
-use delta_chain::LateChain;
+use delta_chain::LazyChain;
 use keys::{Pid, Value};
 use mapping::Tree;
 use smallvec::SmallVec;
@@ -16,7 +16,7 @@ use std::alloc::Global;
 use std::marker::Model;
 
 /// A leaf: its low key and its values.
-pub(crate) type Leaf<'a> = (&'a [u8], &'a LateChain<Value<Global>, Global>);
+pub(crate) type Leaf<'a> = (&'a [u8], &'a LazyChain<Value<Global>, Global>);
 
 // The index pages from the root down to a leaf, each with its children to the right of the path. A tree has at most 64
 // levels, so the path needs no allocation.

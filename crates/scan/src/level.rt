@@ -1,6 +1,6 @@
 //! Counters for places, summed by groups of places.
 ghost use Rattle.std.specs.Prelude.{◌≡◌, ◌≢◌, ◌⊎◌, ℕ, ◌+◌, ◌-◌, ◌/◌, ◌^◌, ◌<◌, ◌≤◌, length, min, replicate, slice_index, IfOk};
-ghost use Rattle.scan.specs.Tally.{IsOneMore, AreWide, counted};
+ghost use Rattle.scan.specs.RankCounter.{IsOneMore, AreWide, counted};
 
 use std::alloc::{AllocError, Global};
 use std::marker::Model;
@@ -84,7 +84,7 @@ pub(crate) fn levels_over(alloc: Global, places: usize) -> Result<Vec<Level>, Al
 
 /// Records `place` on each level; its group is a place of the next level. Each level has a sixteenth of the places of
 /// the one below, so the recursion is shallow.
-pub(crate) fn note_on(levels: &mut [Level], place: usize)
+pub(crate) fn add_at(levels: &mut [Level], place: usize)
     ensures length { length levels.new ≡ length levels.old }
     ensures wide { (places : ℕ) → AreWide places levels.old → AreWide places levels.new }
     ensures counted { (places most at : ℕ) → AreWide places levels.old
@@ -94,7 +94,7 @@ pub(crate) fn note_on(levels: &mut [Level], place: usize)
 {
     if let Some((level, above)) = levels.split_first_mut() {
         level.note(place);
-        note_on(above, place / WIDTH);
+        add_at(above, place / WIDTH);
     }
 }
 

@@ -17,5 +17,5 @@ pub fn value_in<'a>(
     ensures { option_copied result ≡ value_at key.now (entries_of chain.now) }
 {
     let _in_order = chain.depth();
-    find_lent(chain.lent_for(key), key, &mut Probes::new())
+    find_lent(chain.runs_for(key), key, &mut Probes::new())
 }

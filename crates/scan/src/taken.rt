@@ -4,9 +4,9 @@ ghost use Rattle.keys.specs.Bytes.{Bytes};
 ghost use Rattle.keys.specs.Range.{is_below};
 ghost use Rattle.scan.specs.Ends.{deleted, deleted_by, wiped_by, IsUntouched, count_within};
 ghost use Rattle.scan.specs.Ends as ends;
-ghost use Rattle.scan.specs.Taken.{all_lower, all_upper, AreWiped, IsTaken, IsTakenBelow, IsReadyFor, AreReady, HasKeysOf};
+ghost use Rattle.scan.specs.Deletions.{all_lower, all_upper, AreWiped, IsTaken, IsTakenBelow, IsReadyFor, AreReady, HasKeysOf};
 
-use crate::tally::Tally;
+use crate::tally::RankCounter;
 use keys::{Command, Key, KeyRef, is_before};
 use std::alloc::{AllocError, Global};
 use std::marker::Model;
@@ -14,14 +14,14 @@ use std::marker::Model;
 /// What the commands before a place delete: single keys, and ranges that are wiped. Contracts see it as three tallies:
 /// of the deleted keys, of the lower bounds of the wiped ranges, and of their upper bounds.
 #[derive(Drop)]
-pub(crate) struct Taken<'c> {
-    deleted: Tally<'c>,
-    wiped_from: Tally<'c>,
-    wiped_to: Tally<'c>,
+pub(crate) struct Deletions<'c> {
+    deleted: RankCounter<'c>,
+    wiped_from: RankCounter<'c>,
+    wiped_to: RankCounter<'c>,
 }
 
-impl<'c> Model for Taken<'c> {
-    ghost use Rattle.scan.specs.Taken.{Tallies};
+impl<'c> Model for Deletions<'c> {
+    ghost use Rattle.scan.specs.Deletions.{Tallies};
 
     ghost Value = { Tallies };
 
@@ -31,13 +31,13 @@ impl<'c> Model for Taken<'c> {
 /// What is deleted below a key: how many keys are deleted, how many wiped ranges begin there, and how many end there or
 /// at the key.
 #[derive(Drop)]
-pub(crate) struct TakenBelow {
+pub(crate) struct DeletionsBelow {
     deleted: usize,
     begun: usize,
     ended: usize,
 }
 
-impl<'c> Taken<'c> {
+impl<'c> Deletions<'c> {
     /// Nothing, before the first of these commands.
     pub(crate) fn before_all(
         alloc: Global,
@@ -46,10 +46,10 @@ impl<'c> Taken<'c> {
         ensures none { IfOk result (λ taken. IsTaken ([], []) taken) }
         ensures ready { IfOk result (λ taken. AreReady commands.now taken) }
     {
-        let deleted = Tally::new(alloc, deleted_keys(alloc, commands)?)?;
-        let wiped_from = Tally::new(alloc, lower_bounds(alloc, commands)?)?;
-        let wiped_to = Tally::new(alloc, upper_bounds(alloc, commands)?)?;
-        Ok(Taken {
+        let deleted = RankCounter::new(alloc, deleted_keys(alloc, commands)?)?;
+        let wiped_from = RankCounter::new(alloc, lower_bounds(alloc, commands)?)?;
+        let wiped_to = RankCounter::new(alloc, upper_bounds(alloc, commands)?)?;
+        Ok(Deletions {
             deleted,
             wiped_from,
             wiped_to,
@@ -59,7 +59,7 @@ impl<'c> Taken<'c> {
     /// Records what `command`, one of those commands, deletes.
     pub(crate) fn note(&mut self, command: &Command<Global>)
         ensures keys { HasKeysOf self.old self.new }
-        ensures taken { (gone : ends.Taken) → IsTaken gone self.old
+        ensures taken { (gone : ends.Deletions) → IsTaken gone self.old
             → IsReadyFor command.now self.old
             → length gone.0 < 2 ^ 64 - 1 → length gone.1 < 2 ^ 64 - 1
             → IsTaken (gone.0 ++ deleted_by command.now, gone.1 ++ wiped_by command.now) self.new }
@@ -92,11 +92,11 @@ impl<'c> Taken<'c> {
         }
     }
 
-    pub(crate) fn below(&self, key: &[u8]) -> TakenBelow
-        ensures { (gone : ends.Taken) → IsTaken gone self.now → IsTakenBelow gone key.now result }
+    pub(crate) fn below(&self, key: &[u8]) -> DeletionsBelow
+        ensures { (gone : ends.Deletions) → IsTaken gone self.now → IsTakenBelow gone key.now result }
     {
         let key = KeyRef::new(key);
-        TakenBelow {
+        DeletionsBelow {
             deleted: self.deleted.below(&key),
             begun: self.wiped_from.below(&key),
             ended: self.wiped_to.up_to(&key),
@@ -104,11 +104,11 @@ impl<'c> Taken<'c> {
     }
 }
 
-impl TakenBelow {
+impl DeletionsBelow {
     /// The most keys that are deleted at or above this key and below the key of `end`, or `None` if a wiped range may
     /// have keys between the two.
-    pub(crate) fn most_until(&self, end: &TakenBelow) -> Option<usize>
-        ensures { (gone : ends.Taken) (low high : Bytes) → is_below low high ≡ true
+    pub(crate) fn most_until(&self, end: &DeletionsBelow) -> Option<usize>
+        ensures { (gone : ends.Deletions) (low high : Bytes) → is_below low high ≡ true
             → IsTakenBelow gone low self.now → IsTakenBelow gone high end.now
             → IfSome result (λ most. IsUntouched low high gone.1
             × (count_within low high gone.0 ≤ most)) }

@@ -4,9 +4,9 @@ ghost use Rattle.std.specs.List.Sorted.{IsPermutation, IsSorted};
 ghost use Rattle.keys.specs.Bytes.{Bytes};
 ghost use Rattle.keys.specs.Order.{order};
 ghost use Rattle.keys.specs.Range.{is_below};
-ghost use Rattle.scan.specs.Tally.{IsTally, below, up_to};
+ghost use Rattle.scan.specs.RankCounter.{IsTally, below, up_to};
 
-use crate::level::{Level, count_before, levels_over, note_on};
+use crate::level::{Level, add_at, count_before, levels_over};
 use keys::KeyRef;
 use std::alloc::{AllocError, Global};
 use std::marker::Model;
@@ -15,20 +15,20 @@ use std::marker::Model;
 /// sorted, so each has a place. Recording a key and counting the smaller ones take one binary search each. Contracts
 /// see it as the known keys and the counters of their places.
 #[derive(Drop)]
-pub(crate) struct Tally<'c> {
+pub(crate) struct RankCounter<'c> {
     keys: Vec<KeyRef<'c>>,
     levels: Vec<Level>,
 }
 
-impl<'c> Model for Tally<'c> {
-    ghost use Rattle.scan.specs.Tally.{Tally};
+impl<'c> Model for RankCounter<'c> {
+    ghost use Rattle.scan.specs.RankCounter.{RankCounter};
 
-    ghost Value = { Tally };
+    ghost Value = { RankCounter };
 
     ghost view = { λ t. (t.keys.items, t.levels.items) };
 }
 
-impl<'c> Tally<'c> {
+impl<'c> RankCounter<'c> {
     /// A tally in which no key is recorded.
     pub(crate) fn new(alloc: Global, keys: Vec<KeyRef<'c>>) -> Result<Self, AllocError>
         ensures none { IfOk result (λ t. IsTally [] t) }
@@ -37,7 +37,7 @@ impl<'c> Tally<'c> {
         let mut keys = keys;
         keys.sort_unstable();
         let levels = levels_over(alloc, keys.len() + 1)?;
-        Ok(Tally { keys, levels })
+        Ok(RankCounter { keys, levels })
     }
 
     /// Records `key`, which must be one of the known keys.
@@ -47,7 +47,7 @@ impl<'c> Tally<'c> {
             → length came < 2 ^ 64 - 1 → IsTally (came ++ key.now ∷ []) self.new }
     {
         let place = place_below(&self.keys, &KeyRef::new(key));
-        note_on(&mut self.levels, place);
+        add_at(&mut self.levels, place);
     }
 
     pub(crate) fn below(&self, key: &KeyRef<'_>) -> usize

@@ -3,20 +3,20 @@
 -- are made is needed.
 use Rattle.std.specs.Prelude.{ℕ, List, ◌∷◌, flat_map, Option}
 use Rattle.delta_chain.specs.Layers.{with_run}
-use Rattle.mapping.proofs.TileLemmas.{Names}
+use Rattle.mapping.proofs.TileLemmas.{Separators}
 use Rattle.split_plan.specs.Terms.{absent, present}
 
 -- a group as its parent sees it: the name that stays, those that go, and those that come
 pub record Exchange : Type 0 where
   pub kept : List ℕ × ℕ
-  pub gone : Names
-  pub come : Names
+  pub gone : Separators
+  pub come : Separators
 
 -- the names of some groups, before or after, with those that stay, and without them
-abbrev pub whole : (Exchange → Names) → List Exchange → Names
+abbrev pub whole : (Exchange → Separators) → List Exchange → Separators
 whole part xs = flat_map (λ x. x.kept ∷ part x) xs
 
-abbrev pub others : (Exchange → Names) → List Exchange → Names
+abbrev pub others : (Exchange → Separators) → List Exchange → Separators
 others part xs = flat_map part xs
 
 -- the parent's run

@@ -15,32 +15,32 @@ use Rattle.index_page.specs.Range.{is_below, AreBefore}
 use Rattle.index_page.proofs.ListLemmas.{all_keys-append, all_keys_apart}
 use Rattle.index_page.proofs.RangeLemmas.{rising_rest, rising_right}
 use Rattle.index_page.proofs.PageLemmas.{all_keys-with_run}
-use Rattle.mapping.proofs.TileLemmas.{Names}
+use Rattle.mapping.proofs.TileLemmas.{Separators}
 use Rattle.split_plan.specs.Terms.{absent, present, term_at}
 use Rattle.split_plan.proofs.Exchange.{Exchange, whole, others, terms_of}
 
 -- ---- a part of rising names rises
 
-pub all_others : (P : List ℕ → Type 0) (part : Exchange → Names) (xs : List Exchange) → AllByRecursion P (keys_of (whole part xs)) → AllByRecursion P (keys_of (others part xs))
+pub all_others : (P : List ℕ → Type 0) (part : Exchange → Separators) (xs : List Exchange) → AllByRecursion P (keys_of (whole part xs)) → AllByRecursion P (keys_of (others part xs))
 all_others P part [] a = tt
 all_others P part (x ∷ xs) a =
     let b = all_keys_apart P (part x) (whole part xs) a.1 in
     all_keys-append P (part x) (others part xs) b.0 (all_others P part xs b.1)
 
-rising_others_by : (part : Exchange → Names) (xs : List Exchange) (ns : Names) → (IsRising (whole part xs) → IsRising (others part xs)) → IsRising (ns ++ whole part xs) → IsRising (ns ++ others part xs)
+rising_others_by : (part : Exchange → Separators) (xs : List Exchange) (ns : Separators) → (IsRising (whole part xs) → IsRising (others part xs)) → IsRising (ns ++ whole part xs) → IsRising (ns ++ others part xs)
 unfolding IsStrictlySortedBy
 rising_others_by part xs [] ih r = ih r
 rising_others_by part xs (n ∷ ns) ih r =
     let b = all_keys_apart (λ j. order n.0 j ≡ Less) ns (whole part xs) r.0 in
     (all_keys-append (λ j. order n.0 j ≡ Less) ns (others part xs) b.0 (all_others (λ j. order n.0 j ≡ Less) part xs b.1), rising_others_by part xs ns ih r.1)
 
-pub rising-others : (part : Exchange → Names) (xs : List Exchange) → IsRising (whole part xs) → IsRising (others part xs)
+pub rising-others : (part : Exchange → Separators) (xs : List Exchange) → IsRising (whole part xs) → IsRising (others part xs)
 unfolding IsStrictlySortedBy
 rising-others part [] r = tt
 rising-others part (x ∷ xs) r = rising_others_by part xs (part x) (rising-others part xs) r.1
 
 -- the first name, and the others without those that stay
-rising_kept : (part : Exchange → Names) (x : Exchange) (xs : List Exchange) → IsRising (whole part (x ∷ xs)) → IsRising (x.kept ∷ others part (x ∷ xs))
+rising_kept : (part : Exchange → Separators) (x : Exchange) (xs : List Exchange) → IsRising (whole part (x ∷ xs)) → IsRising (x.kept ∷ others part (x ∷ xs))
 unfolding IsStrictlySortedBy
 rising_kept part x xs r =
     let b = all_keys_apart (λ j. order x.kept.0 j ≡ Less) (part x) (whole part xs) r.0 in
@@ -56,7 +56,7 @@ at_append_by : (b : Bool) (v : ℕ) (m n : Option ℕ) → cond b (Some v) (firs
 at_append_by true v m n = refl
 at_append_by false v m n = refl
 
-value_at-append : (q : List ℕ) (xs ys : Names) → value_at q (xs ++ ys) ≡ first_of (value_at q xs) (value_at q ys)
+value_at-append : (q : List ℕ) (xs ys : Separators) → value_at q (xs ++ ys) ≡ first_of (value_at q xs) (value_at q ys)
 value_at-append q [] ys = refl
 value_at-append q (x ∷ xs) ys =
     ap (λ (o : Option ℕ). cond (is_eq (order q x.0)) (Some x.1) o) (value_at-append q xs ys) ∙ at_append_by (is_eq (order q x.0)) x.1 (value_at q xs) (value_at q ys)
@@ -66,15 +66,15 @@ first_none None n h = h
 first_none (Some v) n h = absurd (cc)
 
 -- a key of the first name isn't named after it
-none_after : (x : List ℕ × ℕ) (ns : Names) (q : List ℕ) → is_eq (order q x.0) ≡ true → IsRising (x ∷ ns) → value_at q ns ≡ None
+none_after : (x : List ℕ × ℕ) (ns : Separators) (q : List ℕ) → is_eq (order q x.0) ≡ true → IsRising (x ∷ ns) → value_at q ns ≡ None
 none_after x ns q e r = value_at_rest x ns q r ∙ ap (λ (b : Bool). cond b None (value_at q (x ∷ ns))) e
 
 -- and one that the first part has isn't named in the second
-not_in_both_by : (b : Bool) (x : List ℕ × ℕ) (xs ys : Names) (q : List ℕ) (v : ℕ) → is_eq (order q x.0) ≡ b → IsRising (x ∷ (xs ++ ys)) → (IsRising (xs ++ ys) → value_at q xs ≡ Some v → value_at q ys ≡ None) → cond b (Some x.1) (value_at q xs) ≡ Some v → value_at q ys ≡ None
+not_in_both_by : (b : Bool) (x : List ℕ × ℕ) (xs ys : Separators) (q : List ℕ) (v : ℕ) → is_eq (order q x.0) ≡ b → IsRising (x ∷ (xs ++ ys)) → (IsRising (xs ++ ys) → value_at q xs ≡ Some v → value_at q ys ≡ None) → cond b (Some x.1) (value_at q xs) ≡ Some v → value_at q ys ≡ None
 not_in_both_by true x xs ys q v e r ih h = first_none (value_at q xs) (value_at q ys) (sym (value_at-append q xs ys) ∙ none_after x (xs ++ ys) q e r)
 not_in_both_by false x xs ys q v e r ih h = ih (rising_rest x (xs ++ ys) r) h
 
-not_in_both : (xs ys : Names) (q : List ℕ) (v : ℕ) → IsRising (xs ++ ys) → value_at q xs ≡ Some v → value_at q ys ≡ None
+not_in_both : (xs ys : Separators) (q : List ℕ) (v : ℕ) → IsRising (xs ++ ys) → value_at q xs ≡ Some v → value_at q ys ≡ None
 not_in_both [] ys q v r h = absurd (cc)
 not_in_both (x ∷ xs) ys q v r h = not_in_both_by (is_eq (order q x.0)) x xs ys q v refl r (λ s g. not_in_both xs ys q v s g) h
 
@@ -113,12 +113,12 @@ after_by true q x xs e r s ih =
     (none_after x.kept (others (λ x. x.come) (x ∷ xs)) q e (rising_kept (λ x. x.come) x xs s))
     (none_after x.kept (others (λ x. x.gone) (x ∷ xs)) q e (rising_kept (λ x. x.gone) x xs r)) refl
 after_by false q x xs e r s ih =
-    let old : Names = whole (λ x. x.gone) xs in
+    let old : Separators = whole (λ x. x.gone) xs in
     rw (value_at-append q x.come (whole (λ x. x.come) xs), value_at-append q x.come (others (λ x. x.come) xs), value_at-append q x.gone (others (λ x. x.gone) xs), value_at-append q x.gone (whole (λ x. x.gone) xs))
     (exchanged_first (value_at q x.come) (value_at q x.gone) (value_at q (others (λ x. x.come) xs)) (value_at q (others (λ x. x.gone) xs)) (value_at q old) (value_at q (whole (λ x. x.come) xs)) ih
     (λ v g. not_in_both x.gone old q v (rising_rest x.kept (x.gone ++ old) r) g))
 
-following : (part : Exchange → Names) (x : Exchange) (xs : List Exchange) → IsRising (whole part (x ∷ xs)) → IsRising (whole part xs)
+following : (part : Exchange → Separators) (x : Exchange) (xs : List Exchange) → IsRising (whole part (x ∷ xs)) → IsRising (whole part xs)
 following part x xs r = rising_right (part x) (whole part xs) (rising_rest x.kept (part x ++ whole part xs) r)
 
 after_at : (q : List ℕ) (xs : List Exchange) → IsRising (whole (λ x. x.gone) xs) → IsRising (whole (λ x. x.come) xs) → value_at q (whole (λ x. x.come) xs) ≡ exchanged (value_at q (others (λ x. x.come) xs)) (value_at q (others (λ x. x.gone) xs)) (value_at q (whole (λ x. x.gone) xs))
@@ -133,18 +133,18 @@ said_as_exchanged (Some v) went old = refl
 said_as_exchanged None (Some v) old = refl
 said_as_exchanged None None old = refl
 
-rising-cells : {Y : Type 0} (cell : ℕ → Y) (ns : Names) → IsRising ns → IsRising (map (λ n. (n.0, cell n.1)) ns)
+rising-cells : {Y : Type 0} (cell : ℕ → Y) (ns : Separators) → IsRising ns → IsRising (map (λ n. (n.0, cell n.1)) ns)
 rising-cells cell ns r = rw (keys_of-map_values cell ns) r
 
-pub all_keys-cells : {Y : Type 0} (P : List ℕ → Type 0) (cell : ℕ → Y) (ns : Names) → AllByRecursion P (keys_of ns) → AllByRecursion P (keys_of (map (λ n. (n.0, cell n.1)) ns))
+pub all_keys-cells : {Y : Type 0} (P : List ℕ → Type 0) (cell : ℕ → Y) (ns : Separators) → AllByRecursion P (keys_of ns) → AllByRecursion P (keys_of (map (λ n. (n.0, cell n.1)) ns))
 all_keys-cells P cell ns a = rw (keys_of-map_values cell ns) a
 
 -- absences with new names over them rise
-pub rising-with_present : (gone come : Names) → IsRising gone → IsRising (with_run (absent gone) (present come))
+pub rising-with_present : (gone come : Separators) → IsRising gone → IsRising (with_run (absent gone) (present come))
 rising-with_present gone come r = rising-with_run (absent gone) (present come) (rising-cells (λ v. None) gone r)
 
 -- and name none but those
-pub all_keys-with_present : (P : List ℕ → Type 0) (gone come : Names) → AllByRecursion P (keys_of gone) → AllByRecursion P (keys_of come) → AllByRecursion P (keys_of (with_run (absent gone) (present come)))
+pub all_keys-with_present : (P : List ℕ → Type 0) (gone come : Separators) → AllByRecursion P (keys_of gone) → AllByRecursion P (keys_of come) → AllByRecursion P (keys_of (with_run (absent gone) (present come)))
 all_keys-with_present P gone come a b =
     all_keys-with_run P (absent gone) (present come) (all_keys-cells {Y = Option ℕ} P (λ v. None) gone a) (all_keys-cells {Y = Option (Option ℕ)} P (λ v. Some (Some v)) come b)
 
@@ -157,7 +157,7 @@ term_by None (Some v) = refl
 term_by None None = refl
 
 -- what absences with new names over them say of a key
-pub value_at-with_present : (q : List ℕ) (gone come : Names) → IsRising gone → IsRising come → value_at q (with_run (absent gone) (present come)) ≡ term_at (value_at q come) (value_at q gone)
+pub value_at-with_present : (q : List ℕ) (gone come : Separators) → IsRising gone → IsRising come → value_at q (with_run (absent gone) (present come)) ≡ term_at (value_at q come) (value_at q gone)
 value_at-with_present q gone come r s =
     value_at-with_run (absent gone) (present come) q (rising-cells (λ v. None) gone r) (rising-cells (λ v. Some (Some v)) come s)
     ∙ same_said (lookup-map_values (λ v. Some (Some v)) (λ j. is_eq (order q j)) come) (lookup-map_values (λ v. None) (λ j. is_eq (order q j)) gone)
@@ -166,9 +166,9 @@ value_at-with_present q gone come r s =
 -- the terms turn the names before into the names after
 pub terms_exchange : (xs : List Exchange) → IsRising (whole (λ x. x.gone) xs) → IsRising (whole (λ x. x.come) xs) → with_run (whole (λ x. x.gone) xs) (terms_of xs) ≡ whole (λ x. x.come) xs
 terms_exchange xs r s =
-    let old : Names = whole (λ x. x.gone) xs in
-    let gone : Names = others (λ x. x.gone) xs in
-    let come : Names = others (λ x. x.come) xs in
+    let old : Separators = whole (λ x. x.gone) xs in
+    let gone : Separators = others (λ x. x.gone) xs in
+    let come : Separators = others (λ x. x.come) xs in
     let gone_rises : IsRising gone = rising-others (λ x. x.gone) xs r in
     same_map (with_run old (terms_of xs)) (whole (λ x. x.come) xs) (rising-with_run old (terms_of xs) r) s
     (λ q. value_at-with_run old (terms_of xs) q r (rising-with_present gone come gone_rises)

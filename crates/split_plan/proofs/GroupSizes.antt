@@ -4,7 +4,7 @@ use Rattle.std.proofs.Common.{refl, sym, ap, ◌∙◌, subst, arith, length-app
 use Rattle.std.proofs.lemmas.List.{length-map}
 use Rattle.std.proofs.Math.Seq.{take-append_seam, drop-append_seam}
 use Rattle.keys.specs.Lists.{flat}
-use Rattle.page_runs.specs.Worked.{Worked, is_thin, is_thin_class}
+use Rattle.page_runs.specs.Updated.{Updated, is_thin, is_thin_class}
 use Rattle.split_plan.specs.Groups.{Gathered, with_child, gathered, with_leading, groups, cut_by}
 use Rattle.split_plan.proofs.GroupLemmas.{groups-joined}
 
@@ -110,18 +110,18 @@ module _ {X : Type 0} where
 
 module _ {V : Type 0} where
   -- the walk reads nothing but classes
-  sizes_by_class : (f : List (Worked V)) (n : ℕ) (has_begun : Bool) → sizes_from is_thin_class n has_begun (map (λ w. w.class) f) ≡ sizes_from is_thin n has_begun f
+  sizes_by_class : (f : List (Updated V)) (n : ℕ) (has_begun : Bool) → sizes_from is_thin_class n has_begun (map (λ w. w.class) f) ≡ sizes_from is_thin n has_begun f
   sizes_by_class [] n has_begun = refl
   sizes_by_class (w ∷ f) n has_begun =
       ap (λ (sizes : List ℕ). cond (is_thin w) sizes (ended has_begun n ++ sizes_from is_thin_class (members_with has_begun n) true (map (λ v. v.class) f))) (sizes_by_class f (suc n) has_begun)
       ∙ ap (λ (sizes : List ℕ). cond (is_thin w) (sizes_from is_thin (suc n) has_begun f) (ended has_begun n ++ sizes)) (sizes_by_class f (members_with has_begun n) true)
 
   -- so the sizes of a family's groups are found by its classes
-  pub groups_by_class : (f : List (Worked V)) → map length (groups is_thin_class (map (λ w. w.class) f)) ≡ map length (groups is_thin f)
+  pub groups_by_class : (f : List (Updated V)) → map length (groups is_thin_class (map (λ w. w.class) f)) ≡ map length (groups is_thin f)
   groups_by_class f = sym (sizes_are_found is_thin_class (map (λ w. w.class) f)) ∙ sizes_by_class f 0 false ∙ sizes_are_found is_thin f
 
   -- and cut it into its groups
-  pub groups_cut : (f : List (Worked V)) → cut_by (map length (groups is_thin f)) f ≡ groups is_thin f
+  pub groups_cut : (f : List (Updated V)) → cut_by (map length (groups is_thin f)) f ≡ groups is_thin f
   groups_cut f =
       let joined : flat (groups is_thin f) ≡ f = groups-joined is_thin f in
-      subst (λ (ws : List (Worked V)). cut_by (map length (groups is_thin f)) ws ≡ groups is_thin f) joined (cut_by-lengths (groups is_thin f))
+      subst (λ (ws : List (Updated V)). cut_by (map length (groups is_thin f)) ws ≡ groups is_thin f) joined (cut_by-lengths (groups is_thin f))

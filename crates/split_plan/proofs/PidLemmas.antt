@@ -12,8 +12,8 @@ use Rattle.mapping.specs.Proper.{Distinct}
 use Rattle.split_plan.specs.Cut.{cut}
 use Rattle.split_plan.specs.Groups.{groups}
 use Rattle.split_plan.proofs.GroupLemmas.{groups-joined}
-use Rattle.page_runs.specs.Worked.{Worked, is_thin, is_fat}
-use Rattle.split_plan.specs.WorkedLevel.{placed_of}
+use Rattle.page_runs.specs.Updated.{Updated, is_thin, is_fat}
+use Rattle.split_plan.specs.UpdatedLevel.{placed_of}
 use Rattle.split_plan.specs.Change.{Change, fresh_pages, replacements, remade, changes, family_changes, new_of, fresh_of, all_new, all_fresh}
 use Rattle.split_plan.proofs.ChangeLemmas.{placed_of-append}
 use Rattle.split_plan.proofs.Renewed.{Renewed}
@@ -69,20 +69,20 @@ module _ {V : Type 0} where
   renewed-replacements used i p ns [] = drop_all used (p.pid ∷ ns) (none_drawn used i)
   renewed-replacements used i p ns (b ∷ bs) = keep p.pid (drop_all used ns (renewed-fresh_pages used i bs))
 
-  renewed_one : (b : Bool) (used : List ℕ) (i : ℕ) (w : Worked V) (bs : List (List (List ℕ × V))) → Renewed used i (i + length (drop 1 (cond b (replacements used i w.placed bs) (placed_of (w ∷ []))))) (pids (placed_of (w ∷ []))) (pids (cond b (replacements used i w.placed bs) (placed_of (w ∷ []))))
+  renewed_one : (b : Bool) (used : List ℕ) (i : ℕ) (w : Updated V) (bs : List (List (List ℕ × V))) → Renewed used i (i + length (drop 1 (cond b (replacements used i w.placed bs) (placed_of (w ∷ []))))) (pids (placed_of (w ∷ []))) (pids (cond b (replacements used i w.placed bs) (placed_of (w ∷ []))))
   renewed_one true used i w bs = renewed-replacements used i w.placed [] bs
   renewed_one false used i w bs = keep w.placed.pid (none_drawn used i)
 
-  renewed-remade : (s : Settings) (used : List ℕ) (i : ℕ) (g : List (Worked V)) → Renewed used i (i + length (drop 1 (remade s used i g))) (pids (placed_of g)) (pids (remade s used i g))
+  renewed-remade : (s : Settings) (used : List ℕ) (i : ℕ) (g : List (Updated V)) → Renewed used i (i + length (drop 1 (remade s used i g))) (pids (placed_of g)) (pids (remade s used i g))
   renewed-remade s used i [] = none_drawn used i
   renewed-remade s used i (w ∷ []) = renewed_one (is_fat w) used i w (cut s.fan (joined (placed_of (w ∷ []))))
   renewed-remade s used i (w ∷ v ∷ ws) = renewed-replacements used i w.placed (pids (placed_of (v ∷ ws))) (cut s.fan (joined (placed_of (w ∷ v ∷ ws))))
 
-  pub pids-placed_of : (g h : List (Worked V)) → pids (placed_of (g ++ h)) ≡ pids (placed_of g) ++ pids (placed_of h)
+  pub pids-placed_of : (g h : List (Updated V)) → pids (placed_of (g ++ h)) ≡ pids (placed_of g) ++ pids (placed_of h)
   pids-placed_of g h = ap (λ (ps : List (Placed V)). pids ps) (placed_of-append g h) ∙ pids-append (placed_of g) (placed_of h)
 
   -- the pids of groups: some go, and fresh ones come
-  pub renewed-changes : (s : Settings) (used : List ℕ) (i : ℕ) (gs : List (List (Worked V))) → Renewed used i (i + length (fresh_of (changes s used i gs))) (pids (placed_of (flat gs))) (pids (new_of (changes s used i gs)))
+  pub renewed-changes : (s : Settings) (used : List ℕ) (i : ℕ) (gs : List (List (Updated V))) → Renewed used i (i + length (fresh_of (changes s used i gs))) (pids (placed_of (flat gs))) (pids (new_of (changes s used i gs)))
   renewed-changes s used i [] = none_drawn used i
   renewed-changes s used i (g ∷ gs) =
       let here : List (Placed V) = remade s used i g in
@@ -91,7 +91,7 @@ module _ {V : Type 0} where
       let e : j + length (fresh_of later) ≡ i + length (drop 1 here ++ fresh_of later) = omega (arith, length-append (drop 1 here) (fresh_of later)) in
       recast used e (sym (pids-placed_of g (flat gs))) (sym (pids-append here (new_of later))) (renewed-append (renewed-remade s used i g) (renewed-changes s used j gs))
 
-  pub renewed-family_changes : (s : Settings) (used : List ℕ) (i : ℕ) (fs : List (List (Worked V))) → Renewed used i (i + length (all_fresh (family_changes s used i fs))) (pids (placed_of (flat fs))) (pids (all_new (family_changes s used i fs)))
+  pub renewed-family_changes : (s : Settings) (used : List ℕ) (i : ℕ) (fs : List (List (Updated V))) → Renewed used i (i + length (all_fresh (family_changes s used i fs))) (pids (placed_of (flat fs))) (pids (all_new (family_changes s used i fs)))
   renewed-family_changes s used i [] = none_drawn used i
   renewed-family_changes s used i (f ∷ fs) =
       let cs : List (Change V) = changes s used i (groups is_thin f) in
@@ -99,5 +99,5 @@ module _ {V : Type 0} where
       let later : List (List (Change V)) = family_changes s used j fs in
       let e : j + length (all_fresh later) ≡ i + length (fresh_of cs ++ all_fresh later) = omega (arith, length-append (fresh_of cs) (all_fresh later)) in
       let same : pids (placed_of (flat (groups is_thin f))) ++ pids (placed_of (flat fs)) ≡ pids (placed_of (flat (f ∷ fs))) =
-      ap (λ (ws : List (Worked V)). pids (placed_of ws) ++ pids (placed_of (flat fs))) (groups-joined is_thin f) ∙ sym (pids-placed_of f (flat fs)) in
+      ap (λ (ws : List (Updated V)). pids (placed_of ws) ++ pids (placed_of (flat fs))) (groups-joined is_thin f) ∙ sym (pids-placed_of f (flat fs)) in
       recast used e same (sym (pids-append (new_of cs) (all_new later))) (renewed-append (renewed-changes s used i (groups is_thin f)) (renewed-family_changes s used j fs))

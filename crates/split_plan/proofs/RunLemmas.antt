@@ -20,8 +20,8 @@ use Rattle.mapping.specs.Proper.{Tiled}
 use Rattle.mapping.proofs.TileLemmas.{from-joined}
 use Rattle.page_runs.specs.AfterRun.{must_replace, replaced, in_front, after_run}
 use Rattle.page_runs.proofs.AfterLemmas.{entries_of-after_run}
-use Rattle.page_runs.specs.Worked.{worked}
-use Rattle.split_plan.specs.WorkedLevel.{part_below, part_from, worked_leaves, worked_parents, placed_of}
+use Rattle.page_runs.specs.Updated.{updated}
+use Rattle.split_plan.specs.UpdatedLevel.{part_below, part_from, updated_leaves, updated_parents, placed_of}
 
 -- ---- a run over pairs in two parts
 
@@ -85,29 +85,29 @@ module _ {V : Type 0} where
 
 module _ {V : Type 0} where
   -- a page's entries after a run are its entries with the run applied
-  pub entries-worked : (s : Settings) (p : Placed V) (run : List (List ℕ × Option V)) → entries (worked s p run).placed ≡ with_run (entries p) run
-  entries-worked s p run = entries_of-after_run s p.page.layers run
+  pub entries-updated : (s : Settings) (p : Placed V) (run : List (List ℕ × Option V)) → entries (updated s p run).placed ≡ with_run (entries p) run
+  entries-updated s p run = entries_of-after_run s p.page.layers run
 
   -- leaves after their parts of a run have the run applied to all their entries
-  pub joined-worked_leaves : (s : Settings) (run : List (List ℕ × Option V)) (p : Placed V) (ps : List (Placed V)) (end : Option (List ℕ)) → Tiled (p ∷ ps) end → joined (placed_of (worked_leaves s run (p ∷ ps))) ≡ with_run (joined (p ∷ ps)) run
-  joined-worked_leaves s run p [] end h =
-      append-nil (entries (worked s p run).placed) ∙ entries-worked s p run ∙ ap (λ (m : List (List ℕ × V)). with_run m run) (sym (append-nil (entries p)))
-  joined-worked_leaves s run p (q ∷ qs) end h =
+  pub joined-updated_leaves : (s : Settings) (run : List (List ℕ × Option V)) (p : Placed V) (ps : List (Placed V)) (end : Option (List ℕ)) → Tiled (p ∷ ps) end → joined (placed_of (updated_leaves s run (p ∷ ps))) ≡ with_run (joined (p ∷ ps)) run
+  joined-updated_leaves s run p [] end h =
+      append-nil (entries (updated s p run).placed) ∙ entries-updated s p run ∙ ap (λ (m : List (List ℕ × V)). with_run m run) (sym (append-nil (entries p)))
+  joined-updated_leaves s run p (q ∷ qs) end h =
       let k : List ℕ = q.page.low in
-      ap (λ (m : List (List ℕ × V)). m ++ joined (placed_of (worked_leaves s (part_from k run) (q ∷ qs)))) (entries-worked s p (part_below k run))
-      ∙ ap (λ (m : List (List ℕ × V)). with_run (entries p) (part_below k run) ++ m) (joined-worked_leaves s (part_from k run) q qs end h.1)
+      ap (λ (m : List (List ℕ × V)). m ++ joined (placed_of (updated_leaves s (part_from k run) (q ∷ qs)))) (entries-updated s p (part_below k run))
+      ∙ ap (λ (m : List (List ℕ × V)). with_run (entries p) (part_below k run) ++ m) (joined-updated_leaves s (part_from k run) q qs end h.1)
       ∙ sym (with_run-append run k (entries p) (joined (q ∷ qs)) (all_keys_entries (λ j. is_below j k ≡ true) p.page h.0.keys.before) (from-joined q qs end h.1))
 
   -- pages keep their pids and low keys
-  pub names-worked_leaves : (s : Settings) (run : List (List ℕ × Option V)) (ps : List (Placed V)) → names (placed_of (worked_leaves s run ps)) ≡ names ps
-  names-worked_leaves s run [] = refl
-  names-worked_leaves s run (p ∷ []) = refl
-  names-worked_leaves s run (p ∷ q ∷ qs) = ap (λ (ns : List (List ℕ × ℕ)). name p ∷ ns) (names-worked_leaves s (part_from q.page.low run) (q ∷ qs))
+  pub names-updated_leaves : (s : Settings) (run : List (List ℕ × Option V)) (ps : List (Placed V)) → names (placed_of (updated_leaves s run ps)) ≡ names ps
+  names-updated_leaves s run [] = refl
+  names-updated_leaves s run (p ∷ []) = refl
+  names-updated_leaves s run (p ∷ q ∷ qs) = ap (λ (ns : List (List ℕ × ℕ)). name p ∷ ns) (names-updated_leaves s (part_from q.page.low run) (q ∷ qs))
 
-  pub names-worked_parents : (s : Settings) (ps : List (Placed V)) (runs : List (List (List ℕ × Option V))) → names (placed_of (worked_parents s ps runs)) ≡ names ps
-  names-worked_parents s [] runs = refl
-  names-worked_parents s (p ∷ ps) [] = ap (λ (ns : List (List ℕ × ℕ)). name p ∷ ns) (names-worked_parents s ps [])
-  names-worked_parents s (p ∷ ps) (run ∷ runs) = ap (λ (ns : List (List ℕ × ℕ)). name p ∷ ns) (names-worked_parents s ps runs)
+  pub names-updated_parents : (s : Settings) (ps : List (Placed V)) (runs : List (List (List ℕ × Option V))) → names (placed_of (updated_parents s ps runs)) ≡ names ps
+  names-updated_parents s [] runs = refl
+  names-updated_parents s (p ∷ ps) [] = ap (λ (ns : List (List ℕ × ℕ)). name p ∷ ns) (names-updated_parents s ps [])
+  names-updated_parents s (p ∷ ps) (run ∷ runs) = ap (λ (ns : List (List ℕ × ℕ)). name p ∷ ns) (names-updated_parents s ps runs)
 
   -- ---- what a page says after a run
 

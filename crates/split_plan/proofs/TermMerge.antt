@@ -9,8 +9,8 @@ use Rattle.index_page.proofs.RangeLemmas.{rising_rest}
 use Rattle.delta_chain.specs.Layers.{with_change, with_run}
 use Rattle.split_plan.specs.Terms.{absent, present, front_order}
 
-abbrev Names : Type 0
-Names = List (List ℕ × ℕ)
+abbrev Separators : Type 0
+Separators = List (List ℕ × ℕ)
 
 abbrev Changes : Type 0
 Changes = List (List ℕ × Option ℕ)
@@ -27,7 +27,7 @@ in_place : (k : List ℕ) (o v : Option ℕ) (run : Changes) → with_change ((k
 in_place k o v run = rw (order_itself k) refl
 
 -- present keys above the first key of a run leave its change
-stays_in_front : (k : List ℕ) (o : Option ℕ) (run : Changes) (fresh : Names) → IsBelowAll k (keys_of fresh) → with_run ((k, o) ∷ run) (present fresh) ≡ (k, o) ∷ with_run run (present fresh)
+stays_in_front : (k : List ℕ) (o : Option ℕ) (run : Changes) (fresh : Separators) → IsBelowAll k (keys_of fresh) → with_run ((k, o) ∷ run) (present fresh) ≡ (k, o) ∷ with_run run (present fresh)
 stays_in_front k o run [] a = refl
 stays_in_front k o run (n ∷ ns) a =
     ap (λ (cs : Changes). with_run cs (present ns)) (past k n.0 o (Some n.1) run a.0) ∙ stays_in_front k o (with_change run n.0 (Some (Some n.1))) ns a.1
@@ -35,7 +35,7 @@ stays_in_front k o run (n ∷ ns) a =
 -- ---- the three ways to take the first term
 
 -- the first freed name is below every fresh one
-pub freed_first : (freed fresh ns : Names) (n : List ℕ × ℕ) → IsRising fresh → freed ≡ n ∷ ns → Less ≡ front_order freed fresh → with_run (absent freed) (present fresh) ≡ (n.0, None) ∷ with_run (absent ns) (present fresh)
+pub freed_first : (freed fresh ns : Separators) (n : List ℕ × ℕ) → IsRising fresh → freed ≡ n ∷ ns → Less ≡ front_order freed fresh → with_run (absent freed) (present fresh) ≡ (n.0, None) ∷ with_run (absent ns) (present fresh)
 unfolding IsStrictlySortedBy
 freed_first [] fresh ns n r e h = absurd (cc)
 freed_first (f ∷ fs) [] ns n r e h = let s : f ≡ n = cc in let t : fs ≡ ns = cc in rw (s, t) refl
@@ -45,49 +45,49 @@ freed_first (f ∷ fs) (m ∷ ms) ns n r e h =
     rw (← s, ← t) (stays_in_front f.0 None (absent fs) (m ∷ ms) (sym h, below_all f.0 m.0 (keys_of ms) (sym h) r.0))
 
 -- the first fresh name is below every freed one
-fresh_alone : (freed ms : Names) (m : List ℕ × ℕ) → IsRising (m ∷ ms) → Greater ≡ front_order freed (m ∷ ms) → with_run (absent freed) (present (m ∷ ms)) ≡ (m.0, Some m.1) ∷ with_run (absent freed) (present ms)
+fresh_alone : (freed ms : Separators) (m : List ℕ × ℕ) → IsRising (m ∷ ms) → Greater ≡ front_order freed (m ∷ ms) → with_run (absent freed) (present (m ∷ ms)) ≡ (m.0, Some m.1) ∷ with_run (absent freed) (present ms)
 unfolding IsStrictlySortedBy
 fresh_alone [] ms m r h = stays_in_front m.0 (Some m.1) [] ms r.0
 fresh_alone (f ∷ fs) ms m r h =
     ap (λ (cs : Changes). with_run cs (present ms)) (before f.0 m.0 None (Some m.1) (absent fs) (sym h)) ∙ stays_in_front m.0 (Some m.1) (absent (f ∷ fs)) ms r.0
 
-pub fresh_first : (freed fresh ms : Names) (m : List ℕ × ℕ) → IsRising fresh → fresh ≡ m ∷ ms → Greater ≡ front_order freed fresh → with_run (absent freed) (present fresh) ≡ (m.0, Some m.1) ∷ with_run (absent freed) (present ms)
+pub fresh_first : (freed fresh ms : Separators) (m : List ℕ × ℕ) → IsRising fresh → fresh ≡ m ∷ ms → Greater ≡ front_order freed fresh → with_run (absent freed) (present fresh) ≡ (m.0, Some m.1) ∷ with_run (absent freed) (present ms)
 fresh_first freed [] ms m r e h = absurd (cc)
 fresh_first freed (c ∷ cs) ms m r e h = let s : c ≡ m = cc in let t : cs ≡ ms = cc in rw (← s, ← t) (fresh_alone freed cs c r h)
 
 -- both lists begin with one key
-both_first : (f m : List ℕ × ℕ) (fs ms : Names) → IsRising (m ∷ ms) → order f.0 m.0 ≡ Equal → with_run (absent (f ∷ fs)) (present (m ∷ ms)) ≡ (m.0, Some m.1) ∷ with_run (absent fs) (present ms)
+both_first : (f m : List ℕ × ℕ) (fs ms : Separators) → IsRising (m ∷ ms) → order f.0 m.0 ≡ Equal → with_run (absent (f ∷ fs)) (present (m ∷ ms)) ≡ (m.0, Some m.1) ∷ with_run (absent fs) (present ms)
 unfolding IsStrictlySortedBy
 both_first f m fs ms r h =
     let here : with_change ((f.0, None) ∷ absent fs) m.0 (Some (Some m.1)) ≡ (m.0, Some m.1) ∷ absent fs = rw (same_key f.0 m.0 h) (in_place m.0 None (Some m.1) (absent fs)) in
     ap (λ (cs : Changes). with_run cs (present ms)) here ∙ stays_in_front m.0 (Some m.1) (absent fs) ms r.0
 
-pub fresh_replaces : (freed fresh ms : Names) (m : List ℕ × ℕ) → IsRising fresh → fresh ≡ m ∷ ms → Equal ≡ front_order freed fresh → with_run (absent freed) (present fresh) ≡ (m.0, Some m.1) ∷ with_run (absent (drop 1 freed)) (present ms)
+pub fresh_replaces : (freed fresh ms : Separators) (m : List ℕ × ℕ) → IsRising fresh → fresh ≡ m ∷ ms → Equal ≡ front_order freed fresh → with_run (absent freed) (present fresh) ≡ (m.0, Some m.1) ∷ with_run (absent (drop 1 freed)) (present ms)
 fresh_replaces [] fresh ms m r e h = absurd (cc)
 fresh_replaces (f ∷ fs) [] ms m r e h = absurd (cc)
 fresh_replaces (f ∷ fs) (c ∷ cs) ms m r e h = let s : c ≡ m = cc in let t : cs ≡ ms = cc in rw (← s, ← t) (both_first f c fs cs r (sym h))
 
 -- the name in front, by its parts
-pub front_is : (ns rest : Names) (n m : List ℕ × ℕ) → n ≡ m → ns ≡ m ∷ rest → ns ≡ n ∷ rest
+pub front_is : (ns rest : Separators) (n m : List ℕ × ℕ) → n ≡ m → ns ≡ m ∷ rest → ns ≡ n ∷ rest
 front_is ns rest n m e h = rw e h
 
 -- the rest of rising entries rises
-pub rising_left : (ns : Names) → IsRising ns → IsRising (drop 1 ns)
+pub rising_left : (ns : Separators) → IsRising ns → IsRising (drop 1 ns)
 rising_left [] r = r
 rising_left (n ∷ ns) r = rising_rest n ns r
 
 -- ---- what the order of the first names says of the lists
 
-pub some_freed : (freed fresh : Names) → length freed ≡ 0 → Less ≡ front_order freed fresh → ⊥
+pub some_freed : (freed fresh : Separators) → length freed ≡ 0 → Less ≡ front_order freed fresh → ⊥
 some_freed [] fresh e h = absurd (cc)
 some_freed (f ∷ fs) fresh e h = absurd (omega (arith, e))
 
-pub some_fresh : (freed fresh : Names) → length fresh ≡ 0 → Equal ≡ front_order freed fresh → ⊥
+pub some_fresh : (freed fresh : Separators) → length fresh ≡ 0 → Equal ≡ front_order freed fresh → ⊥
 some_fresh [] [] e h = absurd (cc)
 some_fresh (f ∷ fs) [] e h = absurd (cc)
 some_fresh freed (m ∷ ms) e h = absurd (omega (arith, e))
 
-pub none_left : (freed fresh : Names) → length fresh ≡ 0 → Greater ≡ front_order freed fresh → with_run (absent freed) (present fresh) ≡ []
+pub none_left : (freed fresh : Separators) → length fresh ≡ 0 → Greater ≡ front_order freed fresh → with_run (absent freed) (present fresh) ≡ []
 none_left [] [] e h = refl
 none_left (f ∷ fs) [] e h = absurd (cc)
 none_left freed (m ∷ ms) e h = absurd (omega (arith, e))

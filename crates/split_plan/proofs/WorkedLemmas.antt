@@ -12,9 +12,9 @@ use Rattle.mapping.specs.Levels.{Placed}
 use Rattle.mapping.specs.Proper.{next_low, IsTile, Tiled}
 use Rattle.mapping.proofs.TileLemmas.{next_low-same}
 use Rattle.page_runs.proofs.AfterLemmas.{in_order-after_run}
-use Rattle.page_runs.specs.Worked.{worked}
-use Rattle.split_plan.specs.WorkedLevel.{part_below, part_from, worked_leaves, worked_parents, placed_of}
-use Rattle.split_plan.proofs.RunLemmas.{all_said-after_run, names-worked_leaves, names-worked_parents}
+use Rattle.page_runs.specs.Updated.{updated}
+use Rattle.split_plan.specs.UpdatedLevel.{part_below, part_from, updated_leaves, updated_parents, placed_of}
+use Rattle.split_plan.proofs.RunLemmas.{all_said-after_run, names-updated_leaves, names-updated_parents}
 
 module _ {X : Type 0} where
   below_by : (b : Bool) (k : List ℕ) (c : List ℕ × X) (rest : List (List ℕ × X)) → is_below c.0 k ≡ b → AreBelow k (keys_of rest) → AreBelow k (keys_of (cond b (c ∷ rest) rest))
@@ -49,33 +49,33 @@ module _ {X : Type 0} where
 
 module _ {V : Type 0} where
   -- what holds of the keys that a page names, and of a run's, holds of those that the page names after the run
-  pub all_named-worked : (P : List ℕ → Type 0) (s : Settings) (p : Placed V) (run : List (List ℕ × Option V)) → AllByRecursion P (keys_of run) → AllByRecursion P (named p.page) → AllByRecursion P (named (worked s p run).placed.page)
-  all_named-worked P s p run a b =
-      all_keys P (said (worked s p run).placed.page) (all_said-after_run (λ (c : List ℕ × Option V). P c.0) s p.page.layers run (all_keyed P run a) (all_keyed P (said p.page) b))
+  pub all_named-updated : (P : List ℕ → Type 0) (s : Settings) (p : Placed V) (run : List (List ℕ × Option V)) → AllByRecursion P (keys_of run) → AllByRecursion P (named p.page) → AllByRecursion P (named (updated s p run).placed.page)
+  all_named-updated P s p run a b =
+      all_keys P (said (updated s p run).placed.page) (all_said-after_run (λ (c : List ℕ × Option V). P c.0) s p.page.layers run (all_keyed P run a) (all_keyed P (said p.page) b))
 
-  before-worked : (end : Option (List ℕ)) (s : Settings) (p : Placed V) (run : List (List ℕ × Option V)) → AreBefore end (keys_of run) → AreBefore end (named p.page) → AreBefore end (named (worked s p run).placed.page)
-  before-worked None s p run a b = tt
-  before-worked (Some hi) s p run a b = all_named-worked (λ j. is_below j hi ≡ true) s p run a b
+  before-updated : (end : Option (List ℕ)) (s : Settings) (p : Placed V) (run : List (List ℕ × Option V)) → AreBefore end (keys_of run) → AreBefore end (named p.page) → AreBefore end (named (updated s p run).placed.page)
+  before-updated None s p run a b = tt
+  before-updated (Some hi) s p run a b = all_named-updated (λ j. is_below j hi ≡ true) s p run a b
 
   -- a page keeps its range under a run for it
-  pub tile-worked : (s : Settings) (p : Placed V) (run : List (List ℕ × Option V)) (end : Option (List ℕ)) → IsTile end p → IsRunFor p.page.low end run → IsTile end (worked s p run).placed
-  tile-worked s p run end h k = record {
+  pub tile-updated : (s : Settings) (p : Placed V) (run : List (List ℕ × Option V)) (end : Option (List ℕ)) → IsTile end p → IsRunFor p.page.low end run → IsTile end (updated s p run).placed
+  tile-updated s p run end h k = record {
     keys = record {
       rising = in_order-after_run s p.page.layers run h.keys.rising k.rising;
-      from = all_named-worked (λ j. is_below j p.page.low ≡ false) s p run k.from h.keys.from;
-      before = before-worked end s p run k.before h.keys.before;
+      from = all_named-updated (λ j. is_below j p.page.low ≡ false) s p run k.from h.keys.from;
+      before = before-updated end s p run k.before h.keys.before;
     };
     low = h.low;
   }
 
   -- leaves after their parts of a run are tiled
-  pub tiled-worked_leaves : (s : Settings) (run : List (List ℕ × Option V)) (p : Placed V) (ps : List (Placed V)) (end : Option (List ℕ)) → Tiled (p ∷ ps) end → IsRunFor p.page.low end run → Tiled (placed_of (worked_leaves s run (p ∷ ps))) end
-  tiled-worked_leaves s run p [] end h k = (tile-worked s p run end h.0 k, tt)
-  tiled-worked_leaves s run p (q ∷ qs) end h k =
+  pub tiled-updated_leaves : (s : Settings) (run : List (List ℕ × Option V)) (p : Placed V) (ps : List (Placed V)) (end : Option (List ℕ)) → Tiled (p ∷ ps) end → IsRunFor p.page.low end run → Tiled (placed_of (updated_leaves s run (p ∷ ps))) end
+  tiled-updated_leaves s run p [] end h k = (tile-updated s p run end h.0 k, tt)
+  tiled-updated_leaves s run p (q ∷ qs) end h k =
       let lower : List (List ℕ × Option V) = part_below q.page.low run in
       let upper : List (List ℕ × Option V) = part_from q.page.low run in
-      let next : next_low (placed_of (worked_leaves s upper (q ∷ qs))) end ≡ Some q.page.low = next_low-same (placed_of (worked_leaves s upper (q ∷ qs))) (q ∷ qs) end (names-worked_leaves s upper (q ∷ qs)) in
-      (rw next (tile-worked s p lower (Some q.page.low) h.0 (run_below p.page.low q.page.low end run k)), tiled-worked_leaves s upper q qs end h.1 (run_from p.page.low q.page.low end run k))
+      let next : next_low (placed_of (updated_leaves s upper (q ∷ qs))) end ≡ Some q.page.low = next_low-same (placed_of (updated_leaves s upper (q ∷ qs))) (q ∷ qs) end (names-updated_leaves s upper (q ∷ qs)) in
+      (rw next (tile-updated s p lower (Some q.page.low) h.0 (run_below p.page.low q.page.low end run k)), tiled-updated_leaves s upper q qs end h.1 (run_from p.page.low q.page.low end run k))
 
   -- each run is one for its page
   abbrev pub AreRunsFor : List (Placed V) → List (List (List ℕ × Option V)) → Option (List ℕ) → Type 0
@@ -88,11 +88,11 @@ module _ {V : Type 0} where
   no_runs (p ∷ ps) end = tt
 
   -- parents after their runs are tiled
-  pub tiled-worked_parents : (s : Settings) (ps : List (Placed V)) (runs : List (List (List ℕ × Option V))) (end : Option (List ℕ)) → Tiled ps end → AreRunsFor ps runs end → Tiled (placed_of (worked_parents s ps runs)) end
-  tiled-worked_parents s [] runs end h k = tt
-  tiled-worked_parents s (p ∷ ps) [] end h k =
-      let next : next_low (placed_of (worked_parents s ps [])) end ≡ next_low ps end = next_low-same (placed_of (worked_parents s ps [])) ps end (names-worked_parents s ps []) in
-      (rw next h.0, tiled-worked_parents s ps [] end h.1 (no_runs ps end))
-  tiled-worked_parents s (p ∷ ps) (run ∷ runs) end h k =
-      let next : next_low (placed_of (worked_parents s ps runs)) end ≡ next_low ps end = next_low-same (placed_of (worked_parents s ps runs)) ps end (names-worked_parents s ps runs) in
-      (rw next (tile-worked s p run (next_low ps end) h.0 k.0), tiled-worked_parents s ps runs end h.1 k.1)
+  pub tiled-updated_parents : (s : Settings) (ps : List (Placed V)) (runs : List (List (List ℕ × Option V))) (end : Option (List ℕ)) → Tiled ps end → AreRunsFor ps runs end → Tiled (placed_of (updated_parents s ps runs)) end
+  tiled-updated_parents s [] runs end h k = tt
+  tiled-updated_parents s (p ∷ ps) [] end h k =
+      let next : next_low (placed_of (updated_parents s ps [])) end ≡ next_low ps end = next_low-same (placed_of (updated_parents s ps [])) ps end (names-updated_parents s ps []) in
+      (rw next h.0, tiled-updated_parents s ps [] end h.1 (no_runs ps end))
+  tiled-updated_parents s (p ∷ ps) (run ∷ runs) end h k =
+      let next : next_low (placed_of (updated_parents s ps runs)) end ≡ next_low ps end = next_low-same (placed_of (updated_parents s ps runs)) ps end (names-updated_parents s ps runs) in
+      (rw next (tile-updated s p run (next_low ps end) h.0 k.0), tiled-updated_parents s ps runs end h.1 k.1)

@@ -8,12 +8,12 @@ use Rattle.mapping.specs.Levels.{Placed, joined}
 use Rattle.mapping.specs.FreshPids.{unused}
 use Rattle.split_plan.specs.Cut.{cut}
 use Rattle.split_plan.specs.Groups.{groups}
-use Rattle.page_runs.specs.Worked.{Worked, is_thin, is_fat}
-use Rattle.split_plan.specs.WorkedLevel.{placed_of}
+use Rattle.page_runs.specs.Updated.{Updated, is_thin, is_fat}
+use Rattle.split_plan.specs.UpdatedLevel.{placed_of}
 
 -- a group: its members after their runs, and the pages that replace them
 pub record Change (V : Type 0) : Type 0 where
-  pub members : List (Worked V)
+  pub members : List (Updated V)
   pub pages : List (Placed V)
 
 -- a page under a pid
@@ -31,13 +31,13 @@ replacements used i first [] = []
 replacements used i first (b ∷ bs) = placed_bare first.pid first.page.low b ∷ fresh_pages used i bs
 
 -- a group of two or more members is rewritten, and so is a single fat member
-abbrev pub is_rewritten : {V : Type 0} → List (Worked V) → Bool
+abbrev pub is_rewritten : {V : Type 0} → List (Updated V) → Bool
 is_rewritten [] = false
 is_rewritten (w ∷ []) = is_fat w
 is_rewritten (w ∷ v ∷ ws) = true
 
 -- the pages that replace a group: its members' entries joined and split, or else its members
-abbrev pub remade : {V : Type 0} → Settings → List ℕ → ℕ → List (Worked V) → List (Placed V)
+abbrev pub remade : {V : Type 0} → Settings → List ℕ → ℕ → List (Updated V) → List (Placed V)
 remade s used i [] = []
 remade s used i (w ∷ ws) =
     if is_rewritten (w ∷ ws) then replacements used i w.placed (cut s.fan (joined (placed_of (w ∷ ws)))) else placed_of (w ∷ ws)
@@ -50,7 +50,7 @@ abbrev pub fresh : {V : Type 0} → Change V → List (Placed V)
 fresh c = drop 1 c.pages
 
 -- the changes of groups, from left to right, given that i fresh pids are already allocated
-abbrev pub changes : {V : Type 0} → Settings → List ℕ → ℕ → List (List (Worked V)) → List (Change V)
+abbrev pub changes : {V : Type 0} → Settings → List ℕ → ℕ → List (List (Updated V)) → List (Change V)
 changes s used i [] = []
 changes s used i (g ∷ gs) =
     let c : Change _ = record { members = g; pages = remade s used i g } in
@@ -64,7 +64,7 @@ abbrev pub fresh_of : {V : Type 0} → List (Change V) → List (Placed V)
 fresh_of cs = flat_map fresh cs
 
 -- the changes of the children of each parent, from left to right, given that i fresh pids are already allocated
-abbrev pub family_changes : {V : Type 0} → Settings → List ℕ → ℕ → List (List (Worked V)) → List (List (Change V))
+abbrev pub family_changes : {V : Type 0} → Settings → List ℕ → ℕ → List (List (Updated V)) → List (List (Change V))
 family_changes s used i [] = []
 family_changes s used i (f ∷ fs) =
     let cs : List (Change _) = changes s used i (groups is_thin f) in
@@ -86,5 +86,5 @@ abbrev pub all_outdated : {V : Type 0} → List (List (Change V)) → List ℕ
 all_outdated css = flat_map (λ cs. flat_map outdated cs) css
 
 -- the pid is that of a replaced member of the group, or of any member if the group is rewritten
-abbrev pub IsOutdatedIn : {V : Type 0} → List (Worked V) → ℕ → Type 0
+abbrev pub IsOutdatedIn : {V : Type 0} → List (Updated V) → ℕ → Type 0
 IsOutdatedIn g pid = Any (λ w. (w.placed.pid ≡ pid) × ((w.replaced ≡ true) ⊎ (is_rewritten g ≡ true))) g

@@ -3,4 +3,4 @@ pub mod Cut
 pub mod Groups
 pub mod Pieces
 pub mod Terms
-pub mod WorkedLevel
+pub mod UpdatedLevel

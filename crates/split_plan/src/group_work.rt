@@ -9,7 +9,7 @@ ghost use Rattle.split_plan.specs.Pieces.{pages_lent, CanJoin, group_made, joine
 
 use crate::cutting::{cut_pages, first_key, joined};
 use crate::kind::Kind;
-use crate::name::Name;
+use crate::name::Separator;
 use crew::{Turn, Work};
 use index_page::{Page, PageInMemory};
 use keys::{Pid, Settings, Value};
@@ -159,7 +159,7 @@ fn remade_as<'a, V: Kind + 'a>(
 pub fn index_pages(
     alloc: Global,
     settings: &Settings,
-    names: &[Name],
+    names: &[Separator],
 ) -> Result<Vec<Page<Global>>, AllocError>
     requires fan { 0 < settings.now.fan }
     requires rising { IsRising names.now }

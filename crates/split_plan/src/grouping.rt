@@ -1,6 +1,6 @@
 //! Which children of one parent are merged with each other.
 ghost use Rattle.std.specs.Prelude.{◌≡◌, ◌≤◌, map, length, IfOk, IsOk};
-ghost use Rattle.page_runs.specs.Worked.{is_thin_class};
+ghost use Rattle.page_runs.specs.Updated.{is_thin_class};
 ghost use Rattle.split_plan.specs.Groups.{groups};
 
 use page_runs::Class;

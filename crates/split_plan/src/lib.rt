@@ -15,5 +15,5 @@ mod parent_run;
 
 pub use crate::group_work::{GroupDone, GroupJob, GroupWork, index_pages};
 pub use crate::grouping::groups;
-pub use crate::name::Name;
+pub use crate::name::Separator;
 pub use crate::parent_run::terms;

@@ -4,7 +4,7 @@ ghost use Rattle.keys.specs.Order.{IsRising};
 ghost use Rattle.delta_chain.specs.Layers.{with_run};
 ghost use Rattle.split_plan.specs.Terms.{absent, present, front_order};
 
-use crate::name::Name;
+use crate::name::Separator;
 use delta_chain::Run;
 use keys::{Key, Pid};
 use std::alloc::{AllocError, Global};
@@ -17,8 +17,8 @@ use std::collections::VecDeque;
 /// failed.
 pub fn terms(
     alloc: Global,
-    freed: Vec<Name>,
-    fresh: Vec<Name>,
+    freed: Vec<Separator>,
+    fresh: Vec<Separator>,
 ) -> Result<Run<Pid, Global>, AllocError>
     requires freed { IsRising freed.items }
     requires fresh { IsRising fresh.items }
@@ -39,8 +39,8 @@ pub fn terms(
 // Removes the least key from both lists and returns its term: that of the new page if both have it. Returns `None` if
 // both are empty.
 fn next_term(
-    freed: &mut VecDeque<Name>,
-    fresh: &mut VecDeque<Name>,
+    freed: &mut VecDeque<Separator>,
+    fresh: &mut VecDeque<Separator>,
 ) -> Option<(Key<Global>, Option<Pid>)>
     requires freed { IsRising freed.old.items }
     requires fresh { IsRising fresh.old.items }
@@ -72,7 +72,7 @@ fn next_term(
 }
 
 // Compares the first freed key to the first fresh one; an empty list counts as greater than every key.
-fn front_order(freed: &VecDeque<Name>, fresh: &VecDeque<Name>) -> Ordering
+fn front_order(freed: &VecDeque<Separator>, fresh: &VecDeque<Separator>) -> Ordering
     ensures { result ≡ front_order freed.now.items fresh.now.items }
 {
     match (freed.front(), fresh.front()) {

@@ -1,6 +1,6 @@
 //! Checks one page by itself, given its level.
 ghost use Rattle.std.specs.Prelude.{◌≡◌, ◌&&◌, nat_le, [], Some, length, IfOk};
-ghost use Rattle.delta_chain.specs.Late.{seen};
+ghost use Rattle.delta_chain.specs.Lazy.{seen};
 ghost use Rattle.index_page.specs.Page.{entries, first_key};
 ghost use Rattle.index_page.specs.Page.PageOfKind.{Leaf, Index};
 ghost use Rattle.index_page.specs.Rules.{is_same_key, is_short_value};
@@ -11,7 +11,7 @@ ghost use Rattle.verify.specs.Seen.{seen_as, seen_at};
 use crate::page_rules::broken_rule;
 use crate::place::Place;
 use crate::rules::{CHILDREN, NO_PAGE, WRONG_KIND};
-use delta_chain::{Chain, LateChain, Pairs};
+use delta_chain::{Chain, LazyChain, Pairs};
 use keys::{Pid, Settings, Value, compare};
 use mapping::Tree;
 use std::alloc::{AllocError, Global};
@@ -65,7 +65,7 @@ fn look_at_leaf(
     settings: &Settings,
     at: &Place<'_>,
     low: &[u8],
-    chain: &LateChain<Value<Global>, Global>,
+    chain: &LazyChain<Value<Global>, Global>,
 ) -> Result<Verdict, AllocError>
     ensures { IfOk result (λ verdict. verdict ≡ seen_as (broken_leaf settings.now [] at.now
         (Some (Leaf (record { low = low.now; layers = seen chain.now }))))
@@ -86,15 +86,15 @@ fn broken_rule_of_leaf(
     settings: &Settings,
     at: &Place<'_>,
     low: &[u8],
-    chain: &LateChain<Value<Global>, Global>,
+    chain: &LazyChain<Value<Global>, Global>,
 ) -> Result<Option<u32>, AllocError>
     ensures { IfOk result (λ rule. rule ≡ first_broken (common_rules settings.now
         (is_short_value settings.now) at.now (record { low = low.now; layers = seen chain.now }))) }
 {
     // Only for the proof: its keys rise.
     let _depth = chain.depth();
-    let runs = chain.open_lent();
-    if chain.settled() == 0 {
+    let runs = chain.unmerged_runs();
+    if chain.merged_runs() == 0 {
         return Ok(broken_rule(settings, at, low, &runs, chain.whole().base()));
     }
     let base = chain.base_pairs(alloc)?;

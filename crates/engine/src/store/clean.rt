@@ -2,7 +2,7 @@
 ghost use Rattle.std.specs.Prelude.{◌≡◌, ◌≢◌, ◌⊎◌, Ok, Err, IsTrue, IfErr, OnOk, MatchResult, true, false};
 ghost use Rattle.keys.specs.Bytes.{Bytes};
 ghost use Rattle.mapping.specs.Tree as definitions;
-ghost use Rattle.flush_log.specs.Disk.{IsSettled, Kept, LeavesOnly, Same};
+ghost use Rattle.flush_log.specs.Disk.{IsSynced, Kept, LeavesOnly, Same};
 ghost use Rattle.recovery.specs.Recovered.{IsReadOf};
 ghost use Rattle.recovery.specs.StoreOfDisk.{store_of_disk};
 ghost use Rattle.cleaner.specs.AfterClean.{after_clean};
@@ -75,9 +75,9 @@ impl<D: Disk> Store<D> {
         ensures bytes { IsTrue (D.view self.old.disk).is_honest →
             OnOk result (after_clean self.old.settings self.old.store (D.view self.old.disk).seen
             ≡ Ok (self.new.store, (D.view self.new.disk).seen)) }
-        ensures settled { IsTrue (D.view self.old.disk).is_honest →
-            OnOk result (IsSettled (D.view self.new.disk)) }
-        ensures crash { self.old.has_failed ≡ false → IsSettled (D.view self.old.disk) →
+        ensures is_synced { IsTrue (D.view self.old.disk).is_honest →
+            OnOk result (IsSynced (D.view self.new.disk)) }
+        ensures crash { self.old.has_failed ≡ false → IsSynced (D.view self.old.disk) →
             LeavesOnly (D.view self.old.disk) (D.view self.new.disk)
             (λ c. (store_of_disk c ≡ store_of_disk (D.view self.old.disk).seen)
             ⊎ ((now : definitions.Store) ×

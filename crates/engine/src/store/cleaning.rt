@@ -1,6 +1,6 @@
 //! The flush that makes itself room: it cleans if the log is tight or full, and compacts a bloated store.
 ghost use Rattle.std.specs.Prelude.{◌≡◌, ◌≢◌, ◌⊎◌, ◌↔◌, ◌+◌, ℕ, ◌<◌, ◌≤◌, [], None, Ok, Err, IsTrue, IfOk, OnOk, IfErr, IfSome, MatchResult, ◌&&◌, min, nat_le, true, false};
-ghost use Rattle.flush_log.specs.FlushText.{flush_text};
+ghost use Rattle.flush_log.specs.FlushText.{flush_frames};
 ghost use Rattle.keys.specs.declared.fault.Fault.TheVariants.{NoMemory};
 ghost use Rattle.mapping.specs.Levels.{contents};
 ghost use Rattle.engine.specs.Cleaning.{IsCalmOn, IsCleanRefusedOn, IsEarly, IsFlushedCleaning, IsHeld, IsNoReading, IsOfBytes, IsOfMachine, IsStart, IsStoppedCleaning, IsWantOfRoom, IsWhole, most_ahead, most_cleanable};
@@ -75,7 +75,7 @@ impl<D: Disk> Store<D> {
     // Returns whether the log is tight while a flush is due.
     fn may_clean_early(&self) -> bool
         ensures { IsTrue result ↔ ((is_tight self.now.settings self.now.store ≡ true)
-            × (flush_text self.now.store.version self.now.store.tree ≢ [])) }
+            × (flush_frames self.now.store.version self.now.store.tree ≢ [])) }
     {
         self.is_tight() && self.is_flush_due()
     }
@@ -86,7 +86,7 @@ impl<D: Disk> Store<D> {
         requires crew { IsTrue (is_crew crew) }
         ensures start { OnOk result (IsStart self.old self.new) }
         ensures err { IfErr result (λ fault. (fault ≡ NoMemory) × (self.new ≡ self.old)
-            × (flush_text self.old.store.version self.old.store.tree ≢ [])) }
+            × (flush_frames self.old.store.version self.old.store.tree ≢ [])) }
     {
         if self.is_flush_due() {
             return self.compact_if_bloated(rt, crew);
@@ -211,7 +211,7 @@ impl<D: Disk> Store<D> {
     ) -> Result<(u64, Option<Reading>), Fault>
         requires fine { self.old.has_failed ≡ false }
         requires due { (is_tight self.old.settings self.old.store ≡ true)
-            × (flush_text self.old.store.version self.old.store.tree ≢ []) }
+            × (flush_frames self.old.store.version self.old.store.tree ≢ []) }
         requires most { most ≡ most_ahead self.old.settings }
         ensures done { IfOk result (λ e. (e.0 ≤ most)
             × IsCleanedOn D.view D.failed self.old e.0 self.new

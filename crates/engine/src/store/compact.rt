@@ -29,7 +29,7 @@ use climb_plan::laws::{
     the_plan_of_a_proper_store_is_proper, what_the_log_has_of_a_page_stays_true,
 };
 use crew::{Crew, NoGate};
-use flush_log::{Disk, Text, is_all_written};
+use flush_log::{CommitKind, Disk, is_all_written};
 use index_page::Page;
 use keys::{Command, Fault, Pid, Settings};
 use mapping::laws::{the_contents_of_a_proper_tree_rise, the_first_tree_is_proper_and_empty};
@@ -277,7 +277,7 @@ impl<D: Disk> Store<D> {
         if is_all_written(&new) {
             return Ok(None);
         }
-        let text = Text::Flush(self.version);
+        let text = CommitKind::Flush(self.version);
         match plan(rt, crew, self.alloc, &self.settings, &new, self.log, text) {
             Ok(_planned) => Ok(Some(new)),
             Err(fault) => no_compacted(fault),

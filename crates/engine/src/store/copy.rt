@@ -7,7 +7,7 @@ ghost use Rattle.mapping.specs.Levels.{contents, levels_of};
 ghost use Rattle.mapping.specs.Proper.{AreLevels, HoldsItsLevels};
 ghost use Rattle.mapping.specs.Tree.{most_levels, with_tree};
 ghost use Rattle.mapping.specs.TreeInMemory.{AreAllHome, tree_of};
-ghost use Rattle.flush_log.specs.Disk.{IsSettled, Kept, LeavesOnly};
+ghost use Rattle.flush_log.specs.Disk.{IsSynced, Kept, LeavesOnly};
 ghost use Rattle.recovery.specs.StoreOfDisk.{first_store, store_of_disk};
 ghost use Rattle.engine.specs.Copies.{HoldsSomeStore, IsBegun, IsCopyFault, IsLeftCopying, IsLeftFilling, IsPutFault, last_key, most_puts, put_of, puts_of};
 ghost use Rattle.engine.specs.Late.{create_refusal};
@@ -163,14 +163,14 @@ impl<D: Disk> Store<D> {
             × Kept (E.view copy.old.disk) (E.view copy.new.disk) }
         ensures counted { OnOk result ((copy.new.has_failed ≡ false)
             × (E.failed copy.new.disk ≡ E.failed copy.old.disk)) }
-        ensures bytes { IsSettled (E.view copy.old.disk) → OnOk result (
+        ensures bytes { IsSynced (E.view copy.old.disk) → OnOk result (
             (store_of_disk (E.view copy.new.disk).seen ≡ Ok (copy.old.settings, copy.new.store))
-            × IsSettled (E.view copy.new.disk)) }
+            × IsSynced (E.view copy.new.disk)) }
         ensures refused { IfErr result (IsCopyFault copy.old.settings (contents self.now.store.tree)
             (E.failed copy.old.disk) (E.failed copy.new.disk)) }
         ensures unchanged { IfErr result
             (λ fault. fault ≢ Fault.Device → copy.new.disk ≡ copy.old.disk) }
-        ensures crash { IsSettled (E.view copy.old.disk) →
+        ensures crash { IsSynced (E.view copy.old.disk) →
             LeavesOnly (E.view copy.old.disk) (E.view copy.new.disk) HoldsSomeStore }
         ensures sound { OnOk result (IsSound E.view copy.new) }
     {
@@ -199,14 +199,14 @@ impl<D: Disk> Store<D> {
             contents copy.store.tree ≡ contents self.now.store.tree) }
         ensures kept { IfOk result (λ copy. Kept (E.view fresh.disk) (E.view copy.disk)
             × (E.failed copy.disk ≡ E.failed fresh.disk)) }
-        ensures bytes { IsSettled (E.view fresh.disk) → IfOk result (λ copy.
+        ensures bytes { IsSynced (E.view fresh.disk) → IfOk result (λ copy.
             (store_of_disk (E.view copy.disk).seen ≡ Ok (fresh.settings, copy.store))
-            × IsSettled (E.view copy.disk)) }
+            × IsSynced (E.view copy.disk)) }
         ensures refused { IfErr result (λ e. IsCopyFault fresh.settings
             (contents self.now.store.tree) (E.failed fresh.disk) (E.failed e.1) e.0) }
         ensures back { IfErr result (λ e. Kept (E.view fresh.disk) (E.view e.1)
             × (e.0 ≢ Fault.Device → e.1 ≡ fresh.disk)) }
-        ensures crash { IsSettled (E.view fresh.disk) → MatchResult result
+        ensures crash { IsSynced (E.view fresh.disk) → MatchResult result
             (λ copy. LeavesOnly (E.view fresh.disk) (E.view copy.disk) HoldsSomeStore)
             (λ e. LeavesOnly (E.view fresh.disk) (E.view e.1) HoldsSomeStore) }
         ensures sound { IfOk result (λ copy. IsSound E.view copy) }
@@ -236,14 +236,14 @@ impl<D: Disk> Store<D> {
             contents copy.store.tree ≡ contents self.now.store.tree) }
         ensures kept { IfOk result (λ copy. Kept (E.view fresh.disk.disk) (E.view copy.disk)
             × (E.failed copy.disk ≡ E.failed fresh.disk.disk)) }
-        ensures bytes { IsSettled (E.view fresh.disk.disk) → IfOk result (λ copy.
+        ensures bytes { IsSynced (E.view fresh.disk.disk) → IfOk result (λ copy.
             (store_of_disk (E.view copy.disk).seen ≡ Ok (fresh.settings, copy.store))
-            × IsSettled (E.view copy.disk)) }
+            × IsSynced (E.view copy.disk)) }
         ensures refused { IfErr result (λ e. IsCopyFault fresh.settings
             (contents self.now.store.tree) (E.failed fresh.disk.disk) (E.failed e.1) e.0) }
         ensures back { IfErr result (λ e. Kept (E.view fresh.disk.disk) (E.view e.1)
             × (e.0 ≢ Fault.Device → e.1 ≡ fresh.disk.disk)) }
-        ensures crash { IsSettled (E.view fresh.disk.disk) → MatchResult result
+        ensures crash { IsSynced (E.view fresh.disk.disk) → MatchResult result
             (λ copy. LeavesOnly (E.view fresh.disk.disk) (E.view copy.disk)
             (IsLeftFilling fresh.settings (contents self.now.store.tree)))
             (λ e. LeavesOnly (E.view fresh.disk.disk) (E.view e.1)
@@ -291,7 +291,7 @@ impl<D: Disk> Store<D> {
         ensures left { IfErr result (λ e. e.0 ≢ Fault.Device →
             (e.1 ≡ disk) ⊎ (IsTrue (E.view disk).is_honest →
             (store_of_disk (E.view e.1).seen ≡ Err Fault.NotAStore)
-            × IsSettled (E.view e.1))) }
+            × IsSynced (E.view e.1))) }
 
         // It holds the same, under the settings.
         ensures made { IfOk result (λ copy.
@@ -303,9 +303,9 @@ impl<D: Disk> Store<D> {
         // On an honest disk: it stands for this very store, and is settled.
         ensures bytes { IsTrue (E.view disk).is_honest → IfOk result (λ copy.
             (store_of_disk (E.view copy.disk).seen ≡ Ok (settings, copy.store))
-            × IsSettled (E.view copy.disk)) }
+            × IsSynced (E.view copy.disk)) }
         // On an honest disk that is settled a crash at any moment leaves the bytes as they were, no store, or the whole copy.
-        ensures crash { IsSettled (E.view disk) → MatchResult result
+        ensures crash { IsSynced (E.view disk) → MatchResult result
             (λ copy. LeavesOnly (E.view disk) (E.view copy.disk)
             (IsLeftCopying settings (contents self.now.store.tree) (E.view disk).seen))
             (λ e. LeavesOnly (E.view disk) (E.view e.1)

@@ -2,7 +2,7 @@
 ghost use Rattle.std.specs.Prelude.{◌≡◌, ◌≢◌, [], Ok, Err, IsTrue, IfOk, IsErr, IfErr, OnOk, MatchOption, MatchResult, false};
 ghost use Rattle.mapping.specs.Levels.{contents};
 ghost use Rattle.mapping.specs.TreeInMemory.{new_in_memory};
-ghost use Rattle.flush_log.specs.Disk.{IsSettled, Kept, LeavesOnly};
+ghost use Rattle.flush_log.specs.Disk.{IsSynced, Kept, LeavesOnly};
 ghost use Rattle.flush_log.specs.NewStore.{disk_of_new};
 ghost use Rattle.recovery.specs.StoreOfDisk.{first_store};
 ghost use Rattle.engine.specs.Hidden.{exchanged, HoldsNoStore, IsLeftHiding, IsLeftRevealing, revealed};
@@ -29,8 +29,8 @@ fn make<D: Disk>(alloc: Global, disk: &mut D, settings: &Settings) -> Result<Tre
     ensures counted { OnOk result (D.failed disk.new ≡ D.failed disk.old) }
     ensures bytes { IsTrue (D.view disk.old).is_honest → OnOk result (
         (exchanged (D.view disk.new).seen ≡ disk_of_new settings.now (D.view disk.old).seen)
-        × IsSettled (D.view disk.new)) }
-    ensures crash { IsSettled (D.view disk.old) →
+        × IsSynced (D.view disk.new)) }
+    ensures crash { IsSynced (D.view disk.old) →
         LeavesOnly (D.view disk.old) (D.view disk.new) (IsLeftHiding (D.view disk.old).seen) }
 {
     settings.check()?;
@@ -61,10 +61,10 @@ pub(super) fn create_hidden<D: Disk>(
     ensures bytes { IsTrue (D.view disk).is_honest → IfOk result (λ made.
         (after_create settings (D.view disk).seen
         ≡ Ok (made.store, exchanged (D.view made.disk.disk).seen))
-        × IsSettled (D.view made.disk.disk)) }
+        × IsSynced (D.view made.disk.disk)) }
     ensures hidden { IsTrue (D.view disk).is_honest →
         IfOk result (λ made. HoldsNoStore (D.view made.disk.disk).seen) }
-    ensures crash { IsSettled (D.view disk) → MatchResult result
+    ensures crash { IsSynced (D.view disk) → MatchResult result
         (λ made. LeavesOnly (D.view disk) (D.view made.disk.disk)
         (IsLeftHiding (D.view disk).seen))
         (λ e. LeavesOnly (D.view disk) (D.view e.1) (IsLeftHiding (D.view disk).seen)) }
@@ -100,8 +100,8 @@ pub(super) fn reveal_store<D: Disk>(hidden: Store<Hidden<D>>) -> Result<Store<D>
         × Kept (D.view hidden.disk.disk) (D.view e.1)) }
     ensures bytes { IsTrue (D.view hidden.disk.disk).is_honest → IfOk result (λ shown.
         ((D.view shown.disk).seen ≡ revealed (D.view hidden.disk.disk).seen)
-        × IsSettled (D.view shown.disk)) }
-    ensures crash { IsSettled (D.view hidden.disk.disk) → MatchResult result
+        × IsSynced (D.view shown.disk)) }
+    ensures crash { IsSynced (D.view hidden.disk.disk) → MatchResult result
         (λ shown. LeavesOnly (D.view hidden.disk.disk) (D.view shown.disk)
         (IsLeftRevealing (D.view hidden.disk.disk).seen))
         (λ e. LeavesOnly (D.view hidden.disk.disk) (D.view e.1)

@@ -7,9 +7,9 @@ ghost use Rattle.mapping.specs.Tree as definitions;
 ghost use Rattle.mapping.specs.TreeInMemory.{AreAllHome, tree_of};
 ghost use Rattle.flush_log.specs.AfterFlush.{slot_of, after_flush};
 ghost use Rattle.flush_log.specs.CommitPlan.{next_tail};
-ghost use Rattle.flush_log.specs.Disk.{IsSettled, Kept, LeavesOnly};
-ghost use Rattle.flush_log.specs.FlushText.{version_with, text_of, flush_text, HasFrames};
-ghost use Rattle.flush_log.specs.declared.text.Text.TheVariants as texts;
+ghost use Rattle.flush_log.specs.Disk.{IsSynced, Kept, LeavesOnly};
+ghost use Rattle.flush_log.specs.FlushText.{version_with, commit_frames, flush_frames, HasFrames};
+ghost use Rattle.flush_log.specs.declared.text.CommitKind.TheVariants as texts;
 ghost use Rattle.recovery.specs.InStep.{IsStore};
 ghost use Rattle.recovery.specs.StoreOfDisk.{store_of_disk};
 ghost use Rattle.engine.specs.Calls.{after_writing, IsOwnText, IsToWrite, IsWriting, IsWritingFault, IsFlushFault};
@@ -20,7 +20,7 @@ use crate::refusal::admit_crew;
 use crate::store::Store;
 use crew::Crew;
 use flush_log::laws::an_upgrade_is_a_flush_of_outdated_pages;
-use flush_log::{Commit, Disk, LogEnds, Slot, Text, images, is_all_written};
+use flush_log::{Commit, CommitKind, Disk, LogEnds, Slot, images, is_all_written};
 use keys::{Fault, Settings, Version};
 use mapping::Tree;
 use recovery::laws::{
@@ -33,12 +33,12 @@ use std::alloc::Global;
 use std::thread::Threads;
 
 // The version of the log that has this text: an upgrade brings the second one.
-fn version_with(text: Text) -> Version
+fn version_with(text: CommitKind) -> Version
     ensures { result ≡ version_with text }
 {
     match text {
-        Text::Flush(version) => version,
-        Text::Upgrade => Version::Two,
+        CommitKind::Flush(version) => version,
+        CommitKind::Upgrade => Version::Two,
     }
 }
 
@@ -50,17 +50,17 @@ pub(super) fn plan(
     settings: &Settings,
     tree: &Tree<Global>,
     log: LogEnds,
-    text: Text,
+    text: CommitKind,
 ) -> Result<Commit, Fault>
     requires home { AreAllHome tree.now }
     requires store { (version : versions.Version) ×
         IsStore settings.now (store_in tree.now log version) }
-    requires some { text_of text (tree_of tree.now) ≢ [] }
+    requires some { commit_frames text (tree_of tree.now) ≢ [] }
     ensures plan { (version : versions.Version) →
         IfOk result (IsWriting text settings.now (store_in tree.now log version)) }
     ensures err { IfErr result (λ fault. (fault ≡ NoMemory)
         ⊎ (next_tail settings.now (slot_of (store_in tree.now log (version_with text)))
-        (text_of text (tree_of tree.now)) ≡ Err fault)) }
+        (commit_frames text (tree_of tree.now)) ≡ Err fault)) }
 {
     let images = images(rt, crew, alloc, tree, text)?;
     let slot = Slot {
@@ -78,7 +78,7 @@ impl<D: Disk> Store<D> {
         &mut self,
         rt: &(impl Threads + Sync),
         crew: Crew,
-        text: Text,
+        text: CommitKind,
     ) -> Result<u64, Fault>
         requires fine { self.old.has_failed ≡ false }
         requires own { IsOwnText text self.old.store }
@@ -105,9 +105,9 @@ impl<D: Disk> Store<D> {
             OnOk result
             (after_writing text self.old.settings self.old.store (D.view self.old.disk).seen
             ≡ Ok (self.new.store, (D.view self.new.disk).seen)) }
-        ensures settled { IsTrue (D.view self.old.disk).is_honest →
-            OnOk result (IsSettled (D.view self.new.disk)) }
-        ensures crash { IsSettled (D.view self.old.disk) →
+        ensures is_synced { IsTrue (D.view self.old.disk).is_honest →
+            OnOk result (IsSynced (D.view self.new.disk)) }
+        ensures crash { IsSynced (D.view self.old.disk) →
             LeavesOnly (D.view self.old.disk) (D.view self.new.disk)
             (λ c. (store_of_disk c ≡ store_of_disk (D.view self.old.disk).seen)
             ⊎ ((now : definitions.Store) ×
@@ -160,7 +160,7 @@ impl<D: Disk> Store<D> {
             (after_flush self.old.settings self.old.store (D.view self.old.disk).seen
             ≡ Ok (self.new.store, bytes)))) }
         ensures nothing { self.old.has_failed ≡ false → IsTrue (is_crew crew) →
-            flush_text self.old.store.version self.old.store.tree ≡ [] →
+            flush_frames self.old.store.version self.old.store.tree ≡ [] →
             (result ≡ Ok self.old.store.sequence) × (self.new ≡ self.old) }
         ensures rest { (self.new.settings ≡ self.old.settings)
             × Kept (D.view self.old.disk) (D.view self.new.disk) }
@@ -182,10 +182,10 @@ impl<D: Disk> Store<D> {
         ensures bytes { IsTrue (D.view self.old.disk).is_honest →
             OnOk result (after_flush self.old.settings self.old.store (D.view self.old.disk).seen
             ≡ Ok (self.new.store, (D.view self.new.disk).seen)) }
-        ensures settled { IsTrue (D.view self.old.disk).is_honest →
-            flush_text self.old.store.version self.old.store.tree ≢ [] →
-            OnOk result (IsSettled (D.view self.new.disk)) }
-        ensures crash { self.old.has_failed ≡ false → IsSettled (D.view self.old.disk) →
+        ensures is_synced { IsTrue (D.view self.old.disk).is_honest →
+            flush_frames self.old.store.version self.old.store.tree ≢ [] →
+            OnOk result (IsSynced (D.view self.new.disk)) }
+        ensures crash { self.old.has_failed ≡ false → IsSynced (D.view self.old.disk) →
             LeavesOnly (D.view self.old.disk) (D.view self.new.disk)
             (λ c. (store_of_disk c ≡ store_of_disk (D.view self.old.disk).seen)
             ⊎ ((now : definitions.Store) ×
@@ -207,6 +207,6 @@ impl<D: Disk> Store<D> {
         if is_all_written(&self.tree) {
             return Ok(self.log.sequence);
         }
-        self.write(rt, crew, Text::Flush(self.version))
+        self.write(rt, crew, CommitKind::Flush(self.version))
     }
 }

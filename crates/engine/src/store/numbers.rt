@@ -4,7 +4,7 @@ ghost use Rattle.keys.specs.Limits.{first_bad_field};
 ghost use Rattle.keys.specs.declared.fault.Fault.TheVariants.{NoMemory};
 ghost use Rattle.mapping.specs.Levels.{contents};
 ghost use Rattle.flush_log.specs.Ends.{AreEnds};
-ghost use Rattle.flush_log.specs.FlushText.{flush_text};
+ghost use Rattle.flush_log.specs.FlushText.{flush_frames};
 ghost use Rattle.flush_log.specs.Segments.{last_segment};
 ghost use Rattle.engine.specs.Pending.{FlushAdds, IsFlushRefused};
 ghost use Rattle.engine.specs.Refusal.{is_crew};
@@ -13,7 +13,7 @@ use crate::refusal::admit_crew;
 use crate::store::Store;
 use crate::store::flush::plan;
 use crew::Crew;
-use flush_log::{Disk, LogEnds, Text, is_all_written, last_segment};
+use flush_log::{CommitKind, Disk, LogEnds, is_all_written, last_segment};
 use keys::{Fault, Settings};
 use scan::Rows;
 use std::thread::Threads;
@@ -97,7 +97,7 @@ impl<D: Disk> Store<D> {
     /// pages that were taken since the last flush; after a recovery, and where memory was refused to the list of these, at the number of
     /// runs of each page.
     pub fn is_flush_due(&self) -> bool
-        ensures { IsTrue result ↔ (flush_text self.now.store.version self.now.store.tree ≢ []) }
+        ensures { IsTrue result ↔ (flush_frames self.now.store.version self.now.store.tree ≢ []) }
     {
         !is_all_written(&self.tree)
     }
@@ -111,7 +111,7 @@ impl<D: Disk> Store<D> {
     pub fn pending_bytes(&self, rt: &(impl Threads + Sync), crew: Crew) -> Result<u64, Fault>
         ensures bytes { IfOk result (λ n. FlushAdds self.now.settings self.now.store n) }
         ensures nothing { self.now.has_failed ≡ false → IsTrue (is_crew crew) →
-            flush_text self.now.store.version self.now.store.tree ≡ [] → result ≡ Ok 0 }
+            flush_frames self.now.store.version self.now.store.tree ≡ [] → result ≡ Ok 0 }
 
         // Which fault.
         ensures failed { self.now.has_failed ≡ true → result ≡ Err Fault.Failed }
@@ -135,7 +135,7 @@ impl<D: Disk> Store<D> {
             &self.settings,
             &self.tree,
             self.log,
-            Text::Flush(self.version),
+            CommitKind::Flush(self.version),
         )?;
         let slot = commit.slot();
         Ok(slot.ends.tail - self.log.tail)

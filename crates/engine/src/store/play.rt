@@ -3,12 +3,12 @@ ghost use Rattle.std.specs.Prelude.{◌≡◌, ◌≢◌, ◌⊎◌, ◌<◌, []
 ghost use Rattle.keys.specs.Bytes.{Bytes};
 ghost use Rattle.keys.specs.declared.fault.Fault.TheVariants.{NoMemory, Device, Failed};
 ghost use Rattle.mapping.specs.Tree as definitions;
-ghost use Rattle.flush_log.specs.Disk.{IsSettled, Kept, LeavesOnly, Same};
+ghost use Rattle.flush_log.specs.Disk.{IsSynced, Kept, LeavesOnly, Same};
 ghost use Rattle.recovery.specs.StoreOfDisk.{store_of_disk};
 ghost use Rattle.engine.specs.Plays.{IsPlayed, IsPlayedOn, IsPlayFault, IsStepDone, IsStepFault, IsLeftInStep, IsLeftAfter, UnlessDevice, step_of, answer_of, played, reached};
 ghost use Rattle.engine.specs.Refusal.{is_crew};
 ghost use Rattle.engine.specs.State.{IsSound};
-ghost use Rattle.engine.specs.Steps.{ArePlayed, HasWords, HaveWords, StandsAfterSome, batching, after_step, plays};
+ghost use Rattle.engine.specs.Steps.{ArePlayed, NumbersFit, AllNumbersFit, StandsAfterSome, batching, after_step, plays};
 
 use crate::laws::steps_answer_as_a_map_and_are_read_back;
 use crate::step::{Answer, Step};
@@ -54,7 +54,7 @@ impl<D: Disk> Store<D> {
             (λ fault. fault ≢ Fault.Device → Same (D.view self.old.disk) (D.view self.new.disk)) }
         ensures device { IfErr result (λ fault. fault ≡ Fault.Device →
             (self.new.has_failed ≡ true)
-            × HasWords (batching self.old.settings) self.old.settings self.old.store
+            × NumbersFit (batching self.old.settings) self.old.settings self.old.store
             (step_of step.entry)) }
         ensures counted { OnOk result ((self.new.has_failed ≡ self.old.has_failed)
             × (D.failed self.new.disk ≡ D.failed self.old.disk)) }
@@ -64,9 +64,9 @@ impl<D: Disk> Store<D> {
             IfOk result (λ answer. after_step (batching self.old.settings)
             self.old.settings self.old.store (D.view self.old.disk).seen (step_of step.entry)
             ≡ Ok (answer_of answer, (self.new.store, (D.view self.new.disk).seen))) }
-        ensures settled { IsSettled (D.view self.old.disk) →
-            OnOk result (IsSettled (D.view self.new.disk)) }
-        ensures crash { self.old.has_failed ≡ false → IsSettled (D.view self.old.disk) →
+        ensures is_synced { IsSynced (D.view self.old.disk) →
+            OnOk result (IsSynced (D.view self.new.disk)) }
+        ensures crash { self.old.has_failed ≡ false → IsSynced (D.view self.old.disk) →
             LeavesOnly (D.view self.old.disk) (D.view self.new.disk)
             (IsLeftInStep self.old.settings self.old.store
             (D.view self.old.disk).seen (step_of step.entry)) }
@@ -143,13 +143,13 @@ impl<D: Disk> Store<D> {
 
         // From a settled disk, a crash at any moment leaves the store after some of these steps; and once it has answered, after all of them. Where
         // a call of the disk failed, that is so of the step before it or of the one in which it failed.
-        ensures crash { self.old.has_failed ≡ false → IsSettled (D.view self.old.disk) →
+        ensures crash { self.old.has_failed ≡ false → IsSynced (D.view self.old.disk) →
             LeavesOnly (D.view self.old.disk) (D.view self.new.disk)
             (StandsAfterSome (batching self.old.settings) self.old.settings self.old.store
             (D.view self.old.disk).seen (reached result steps.now)) }
-        ensures settled { IsSettled (D.view self.old.disk) →
-            UnlessDevice result (IsSettled (D.view self.new.disk)) }
-        ensures following { self.old.has_failed ≡ false → IsSettled (D.view self.old.disk) →
+        ensures is_synced { IsSynced (D.view self.old.disk) →
+            UnlessDevice result (IsSynced (D.view self.new.disk)) }
+        ensures following { self.old.has_failed ≡ false → IsSynced (D.view self.old.disk) →
             IfErr result (λ e. e.2 ≡ Fault.Device →
             (c : Bytes) → (D.view self.new.disk).may_leave c →
             IsLeftAfter self.old.settings self.old.store
@@ -158,10 +158,10 @@ impl<D: Disk> Store<D> {
         // The numbers on the way have 64 bits, on any disk as `IsPlayed` says, and those of a step in which a call of the disk failed too.
         // The store was sound, and is so again.
         ensures words { IsTrue (D.view self.old.disk).is_honest →
-            HaveWords (batching self.old.settings) self.old.settings self.old.store
+            AllNumbersFit (batching self.old.settings) self.old.settings self.old.store
             (D.view self.old.disk).seen (played result steps.now) }
         ensures words_reached { IsTrue (D.view self.old.disk).is_honest →
-            HaveWords (batching self.old.settings) self.old.settings self.old.store
+            AllNumbersFit (batching self.old.settings) self.old.settings self.old.store
             (D.view self.old.disk).seen (reached result steps.now) }
         ensures sound { IsSound D.view self.old × IsSound D.view self.new }
     {

@@ -1,7 +1,7 @@
 //! A store comes back: from the disk that holds it, or from its own.
 ghost use Rattle.std.specs.Prelude.{◌≡◌, ◌≢◌, Err, false, IsTrue, IfOk, IfErr, OnOk};
 ghost use Rattle.keys.specs.Bytes.{Bytes};
-ghost use Rattle.flush_log.specs.Disk.{CountsFailure, IsSettled, Kept, Leaves, Same};
+ghost use Rattle.flush_log.specs.Disk.{CountsFailure, IsSynced, Kept, Leaves, Same};
 ghost use Rattle.recovery.specs.Recovered.{IsReadOf};
 ghost use Rattle.engine.specs.Opened.{IsOpened, disk_left};
 ghost use Rattle.engine.specs.Refusal.{is_crew};
@@ -21,8 +21,8 @@ use std::thread::Threads;
 fn settle<D: Disk>(disk: &mut D) -> Result<(), DiskFault>
     ensures kept { Kept (D.view disk.old) (D.view disk.new) }
     ensures failed { CountsFailure result (D.failed disk.old) (D.failed disk.new) }
-    ensures settled { IsTrue (D.view disk.old).is_honest →
-        OnOk result (IsSettled (D.view disk.new)) }
+    ensures is_synced { IsTrue (D.view disk.old).is_honest →
+        OnOk result (IsSynced (D.view disk.new)) }
     ensures seen { IsTrue (D.view disk.old).is_honest →
         (D.view disk.new).seen ≡ (D.view disk.old).seen }
     ensures crash { IsTrue (D.view disk.old).is_honest →
@@ -112,8 +112,8 @@ impl<D: Disk> Store<D> {
         // What a read gives stays; the disk is settled where it is Ok, and a crash meanwhile leaves what it might have left before.
         ensures seen { IsTrue (D.view disk).is_honest →
             (D.view (disk_left result)).seen ≡ (D.view disk).seen }
-        ensures settled { IsTrue (D.view disk).is_honest →
-            IfOk result (λ opened. IsSettled (D.view opened.disk)) }
+        ensures is_synced { IsTrue (D.view disk).is_honest →
+            IfOk result (λ opened. IsSynced (D.view opened.disk)) }
         ensures crash { IsTrue (D.view disk).is_honest →
             Leaves (D.view disk) (D.view (disk_left result)) (λ before c. c ≡ before) }
         ensures kept { Kept (D.view disk) (D.view (disk_left result)) }
@@ -146,8 +146,8 @@ impl<D: Disk> Store<D> {
         // What a read gives stays; the disk is settled where it is Ok, and a crash meanwhile leaves what it might have left before.
         ensures seen { IsTrue (D.view self.disk).is_honest →
             (D.view (disk_left result)).seen ≡ (D.view self.disk).seen }
-        ensures settled { IsTrue (D.view self.disk).is_honest →
-            IfOk result (λ opened. IsSettled (D.view opened.disk)) }
+        ensures is_synced { IsTrue (D.view self.disk).is_honest →
+            IfOk result (λ opened. IsSynced (D.view opened.disk)) }
         ensures crash { IsTrue (D.view self.disk).is_honest →
             Leaves (D.view self.disk) (D.view (disk_left result)) (λ before c. c ≡ before) }
         ensures kept { Kept (D.view self.disk) (D.view (disk_left result)) }

@@ -8,7 +8,7 @@ ghost use Rattle.engine.specs.Room.{is_overfull, is_tight, is_two_thirds_full, i
 use crate::store::Store;
 use cleaner::Reading;
 use crew::Crew;
-use flush_log::{Disk, Image, Text, images};
+use flush_log::{CommitKind, Disk, Image, images};
 use keys::{Fault, Settings};
 use std::thread::Threads;
 
@@ -102,7 +102,13 @@ impl<D: Disk> Store<D> {
             is ≡ is_overfull self.now.settings self.now.store reading.now.live) }
         ensures err { IfErr result (λ fault. fault ≡ NoMemory) }
     {
-        let images = images(rt, crew, self.alloc, &self.tree, Text::Flush(self.version))?;
+        let images = images(
+            rt,
+            crew,
+            self.alloc,
+            &self.tree,
+            CommitKind::Flush(self.version),
+        )?;
         Ok(most_live(&self.settings) < with_images(reading.live(), &images))
     }
 }

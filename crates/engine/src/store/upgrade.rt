@@ -4,9 +4,9 @@ ghost use Rattle.keys.specs.Bytes.{Bytes};
 ghost use Rattle.keys.specs.declared.version.Version.TheVariants.{Two};
 ghost use Rattle.mapping.specs.Tree as definitions;
 ghost use Rattle.flush_log.specs.AfterFlush.{after_upgrade};
-ghost use Rattle.flush_log.specs.Disk.{IsSettled, Kept, LeavesOnly};
+ghost use Rattle.flush_log.specs.Disk.{IsSynced, Kept, LeavesOnly};
 ghost use Rattle.flush_log.specs.FlushText.{HasFrames};
-ghost use Rattle.flush_log.specs.declared.text.Text.TheVariants as texts;
+ghost use Rattle.flush_log.specs.declared.text.CommitKind.TheVariants as texts;
 ghost use Rattle.recovery.specs.StoreOfDisk.{store_of_disk};
 ghost use Rattle.engine.specs.Calls.{IsUpgradeFault};
 ghost use Rattle.engine.specs.Refusal.{is_crew};
@@ -15,7 +15,7 @@ ghost use Rattle.engine.specs.State.{IsSound};
 use crate::refusal::admit_crew;
 use crate::store::Store;
 use crew::Crew;
-use flush_log::{Disk, Text};
+use flush_log::{CommitKind, Disk};
 use keys::{Fault, Version};
 use std::thread::Threads;
 
@@ -59,9 +59,9 @@ impl<D: Disk> Store<D> {
         ensures bytes { IsTrue (D.view self.old.disk).is_honest →
             OnOk result (after_upgrade self.old.settings self.old.store (D.view self.old.disk).seen
             ≡ Ok (self.new.store, (D.view self.new.disk).seen)) }
-        ensures settled { IsTrue (D.view self.old.disk).is_honest →
-            OnOk result (IsSettled (D.view self.new.disk)) }
-        ensures crash { self.old.has_failed ≡ false → IsSettled (D.view self.old.disk) →
+        ensures is_synced { IsTrue (D.view self.old.disk).is_honest →
+            OnOk result (IsSynced (D.view self.new.disk)) }
+        ensures crash { self.old.has_failed ≡ false → IsSynced (D.view self.old.disk) →
             LeavesOnly (D.view self.old.disk) (D.view self.new.disk)
             (λ c. (store_of_disk c ≡ store_of_disk (D.view self.old.disk).seen)
             ⊎ ((now : definitions.Store) ×
@@ -83,6 +83,6 @@ impl<D: Disk> Store<D> {
         if self.version == Version::Two {
             return Err(Fault::AlreadyUpgraded);
         }
-        self.write(rt, crew, Text::Upgrade)
+        self.write(rt, crew, CommitKind::Upgrade)
     }
 }

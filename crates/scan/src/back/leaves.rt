@@ -1,7 +1,7 @@
 //! Iterates over the leaves of a tree from right to left.
 ghost use Rattle.std.specs.Prelude.{◌≡◌, ◌∷◌, ◌++◌, [], ◌≤◌, None, length, MatchOption};
 ghost use Rattle.std.specs.Option.{option_copied};
-ghost use Rattle.delta_chain.specs.Late.{seen};
+ghost use Rattle.delta_chain.specs.Lazy.{seen};
 ghost use Rattle.mapping.specs.Tree.{most_levels};
 ghost use Rattle.mapping.specs.TreeInMemory.{AreAllHome};
 ghost use Rattle.scan.specs.Back.{walk_back, walk_before};

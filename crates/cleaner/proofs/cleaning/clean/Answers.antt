@@ -12,9 +12,9 @@ returns-in_err-reading-clause-read g c =
     (file, is, λ st same version. handed_on c.from_residual.result _ _ c.in_err-reading.field-0.0 c.from_residual.ensures.1 (state st same version))
 
 pub returns-in_err-reading-clause-crash : goal.returns-in_err-reading-clause-crash
-returns-in_err-reading-clause-crash g c settled st same version step =
+returns-in_err-reading-clause-crash g c is_synced st same version step =
     let view = g.D.Disk.view in
-    leaves_the_same (view c.args.disk.now) (view c.read_for_cleans.new.disk) _ (g.met.D.Disk.lawful c.args.disk.now settled.honest) (c.in_err-reading.ensures.same settled.honest) settled (inl refl)
+    leaves_the_same (view c.args.disk.now) (view c.read_for_cleans.new.disk) _ (g.met.D.Disk.lawful c.args.disk.now is_synced.honest) (c.in_err-reading.ensures.same is_synced.honest) is_synced (inl refl)
 
 pub returns-in_err-reading-clause-unwritten : goal.returns-in_err-reading-clause-unwritten
 returns-in_err-reading-clause-unwritten g c honest st same version = err_on c.from_residual.result _ c.in_err-reading.field-0.0 c.from_residual.ensures.1 (inl (c.in_err-reading.ensures.same honest))
@@ -40,13 +40,13 @@ returns-clause-written g c honest st same version =
     (c.clean_by.ensures.written (subst IsTrue (sym c.in_ok-reading.ensures.kept.honest) honest) st same version)
 
 pub returns-clause-crash : goal.returns-clause-crash
-returns-clause-crash g c settled st same version step =
+returns-clause-crash g c is_synced st same version step =
     let view = g.D.Disk.view in
     let old = view c.args.disk.now in
     let mid = view c.read_for_cleans.new.disk in
-    let still = c.in_ok-reading.ensures.same settled.honest in
+    let still = c.in_ok-reading.ensures.same is_synced.honest in
     crash-since c.args.format.now.settings st old mid (view c.clean_by.new.disk) still
-    (c.clean_by.ensures.crash (settled_still old mid c.in_ok-reading.ensures.kept still settled) st same version (subst (λ f. IsInStep c.args.format.now.settings st f) (sym still.seen) step))
+    (c.clean_by.ensures.crash (settled_still old mid c.in_ok-reading.ensures.kept still is_synced) st same version (subst (λ f. IsInStep c.args.format.now.settings st f) (sym still.seen) step))
 
 pub returns-clause-unwritten : goal.returns-clause-unwritten
 returns-clause-unwritten g c honest st same version =

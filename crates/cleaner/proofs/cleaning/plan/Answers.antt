@@ -5,7 +5,7 @@ use Rattle.flush_log.specs.Slot.{Slot}
 use Rattle.recovery.proofs.ReadBytes.{read_before, handed_on}
 use Rattle.cleaner.specs.Chosen.{image_in}
 use Rattle.cleaner.specs.Cleaned.{cleaned_slot}
-use Rattle.cleaner.specs.CleanText.{clean_text}
+use Rattle.cleaner.specs.CleanText.{clean_frames}
 use Rattle.cleaner.specs.PagesRead.{HasTexts}
 use Rattle.cleaner.proofs.ChooseLemmas.{some-text}
 use Rattle.cleaner.proofs.NextReading.{read-beside, has-more, texts-left}
@@ -39,7 +39,7 @@ plan-requires-clause-text g c =
     let f = c.args.format.now in
     let t = c.args.ends.now in
     let (file, is, reading) = c.requires.reading in
-    let words : List Frame = clean_text t.head reading.found in
+    let words : List Frame = clean_frames t.head reading.found in
     let of = c.in_ok-images.ensures.frames ∙ ap (λ ps. flat_map (image_in f) ps) c.take-pages.ensures.taken ∙ reading.texts t.head (omega arith) c.requires.has in
     (words, images-by f c.cleaned_slot-base.result words _ (ap (λ (u : Slot). u.version) c.cleaned_slot-base.ensures) (chosen-images f t file reading.found _ reading.read of (some-text _ words of c.in_ok-images.ensures.some)))
 
@@ -59,11 +59,11 @@ returns-clause-read g c =
     let room = c.requires.within in
     let read = read-beside f t file now found c.requires.checked (omega (arith, whole, room)) agree reading.read in
     let of = c.in_ok-images.ensures.frames ∙ ap (λ ps. flat_map (image_in f) ps) c.take-pages.ensures.taken ∙ reading.texts t.head (omega arith) c.requires.has in
-    let images = chosen-images f t file found _ reading.read of (some-text _ (clean_text t.head found) of c.in_ok-images.ensures.some) in
+    let images = chosen-images f t file found _ reading.read of (some-text _ (clean_frames t.head found) of c.in_ok-images.ensures.some) in
     let base = c.cleaned_slot-base.ensures ∙ ap (λ (d : Slot). cleaned_slot f.version t d) slot in (
       now,
       read_before old new now c.in_ok-on_disk.ensures.kept c.in_ok-on_disk.ensures.same then,
       as-clean f t c.cleaned_slot-base.result now found (λ fs. HasTexts f (suc t.head) fs c.take-pages.new.self) (failed c.args.disk.now) (failed c.read_slot_on_disk.new.disk) c.plan.result more read
           (texts-left f t.head found c.args.reading.now c.take-pages.new.self c.take-pages.ensures.limit c.take-pages.ensures.rest reading.texts) base
-          (c.plan.ensures (clean_text t.head found) (images-by f c.cleaned_slot-base.result (clean_text t.head found) _ (ap (λ (u : Slot). u.version) c.cleaned_slot-base.ensures) images)),
+          (c.plan.ensures (clean_frames t.head found) (images-by f c.cleaned_slot-base.result (clean_frames t.head found) _ (ap (λ (u : Slot). u.version) c.cleaned_slot-base.ensures) images)),
     )

@@ -45,7 +45,7 @@ finish_level-requires-after_bounds g t c κs within =
     let k = (goal.at.finish_level-requires-after_bounds g t c).In-Ok in
     let termed = c.climb_parents-climbed.ensures in
     let can : CanEnd Index c.args.settings.now (working g t k) c.climb_parents-climbed.new.tree (parents_seen c.args.dones.items) c.in-Ok.changed.groups.items c.climb_parents-climbed.result =
-    record { worked = here g t k; ended = have_ended c.args.settings.now (working g t k) c.climb_parents-climbed.new.tree c.climb_parents-climbed.result termed.climbed termed.low termed.back termed.err termed.high } in
+    record { updated = here g t k; ended = have_ended c.args.settings.now (working g t k) c.climb_parents-climbed.new.tree c.climb_parents-climbed.result termed.climbed termed.low termed.back termed.err termed.high } in
     (working g t k, can)
 
 pub returns-clause-climbed : goal.returns-clause-climbed
@@ -53,7 +53,7 @@ returns-clause-climbed g t c =
     let k = (goal.at.returns-clause-climbed g t c).In-Ok in
     let termed = c.climb_parents-climbed.ensures in
     let can : CanEnd Index c.args.settings.now (working g t k) c.climb_parents-climbed.new.tree (parents_seen c.args.dones.items) c.in-Ok.changed.groups.items c.climb_parents-climbed.result =
-    record { worked = here g t k; ended = have_ended c.args.settings.now (working g t k) c.climb_parents-climbed.new.tree c.climb_parents-climbed.result termed.climbed termed.low termed.back termed.err termed.high } in
+    record { updated = here g t k; ended = have_ended c.args.settings.now (working g t k) c.climb_parents-climbed.new.tree c.climb_parents-climbed.result termed.climbed termed.low termed.back termed.err termed.high } in
     ended_climbs can c.finish_level.new.tree c.finish_level.result c.finish_level.ensures.climbed
 
 pub returns-clause-err : goal.returns-clause-err
@@ -61,7 +61,7 @@ returns-clause-err g t c =
     let k = (goal.at.returns-clause-err g t c).In-Ok in
     let termed = c.climb_parents-climbed.ensures in
     let can : CanEnd Index c.args.settings.now (working g t k) c.climb_parents-climbed.new.tree (parents_seen c.args.dones.items) c.in-Ok.changed.groups.items c.climb_parents-climbed.result =
-    record { worked = here g t k; ended = have_ended c.args.settings.now (working g t k) c.climb_parents-climbed.new.tree c.climb_parents-climbed.result termed.climbed termed.low termed.back termed.err termed.high } in
+    record { updated = here g t k; ended = have_ended c.args.settings.now (working g t k) c.climb_parents-climbed.new.tree c.climb_parents-climbed.result termed.climbed termed.low termed.back termed.err termed.high } in
     ended_back can c.finish_level.new.tree c.finish_level.result c.finish_level.ensures.err
 
 pub returns-clause-high : goal.returns-clause-high
@@ -69,5 +69,5 @@ returns-clause-high g t c =
     let k = (goal.at.returns-clause-high g t c).In-Ok in
     let termed = c.climb_parents-climbed.ensures in
     let can : CanEnd Index c.args.settings.now (working g t k) c.climb_parents-climbed.new.tree (parents_seen c.args.dones.items) c.in-Ok.changed.groups.items c.climb_parents-climbed.result =
-    record { worked = here g t k; ended = have_ended c.args.settings.now (working g t k) c.climb_parents-climbed.new.tree c.climb_parents-climbed.result termed.climbed termed.low termed.back termed.err termed.high } in
+    record { updated = here g t k; ended = have_ended c.args.settings.now (working g t k) c.climb_parents-climbed.new.tree c.climb_parents-climbed.result termed.climbed termed.low termed.back termed.err termed.high } in
     ended_high can c.finish_level.new.tree c.finish_level.result c.finish_level.ensures.high

@@ -19,7 +19,7 @@ here g c = record {
   fan = c.requires.fan;
   deep = c.if-depth-eq0.false;
   level = c.requires.level;
-  works = works_for Leaf (λ d. page_seen Leaf d.made.worked) c.args.dones.items c.deref.result.now (c.args.depth - 1) c.deref.ensures.value c.in-Ok.ensures.changed;
+  works = works_for Leaf (λ d. page_seen Leaf d.made.updated) c.args.dones.items c.deref.result.now (c.args.depth - 1) c.deref.ensures.value c.in-Ok.ensures.changed;
 }
 
 pub returns-then-is_empty-clause-climbed : goal.returns-then-is_empty-clause-climbed
@@ -27,11 +27,11 @@ returns-then-is_empty-clause-climbed g c =
     let zero : vec_len c.args.dones ≡ 0 = none_by c.is_empty.result (vec_len c.args.dones) c.is_empty.ensures c.if-is_empty.true in
     let ok = c.args.dones.ok in
     let empty : length c.args.dones.items ≡ 0 = omega arith in
-    nothing_done Leaf (λ d. page_seen Leaf d.made.worked) c.args.settings.now c.args.tree.now c.args.dones.items c.args.depth empty
+    nothing_done Leaf (λ d. page_seen Leaf d.made.updated) c.args.settings.now c.args.tree.now c.args.dones.items c.args.depth empty
 
 pub change_level-requires-clause-level : goal.change_level-requires-clause-level
 change_level-requires-clause-level g c κs within =
-    children_for Leaf (λ d. page_seen Leaf d.made.worked) c.args.tree.now c.args.dones.items c.deref.result.now c.args.depth c.deref.ensures.value c.if-depth-eq0.false c.requires.level
+    children_for Leaf (λ d. page_seen Leaf d.made.updated) c.args.tree.now c.args.dones.items c.deref.result.now c.args.depth c.deref.ensures.value c.if-depth-eq0.false c.requires.level
 
 pub climb_parents-climbed-requires-clause-level : goal.climb_parents-climbed-requires-clause-level
 climb_parents-climbed-requires-clause-level g c κs within = some_above (here g (goal.at.climb_parents-climbed-requires-clause-level g c).In-Ok)
@@ -44,7 +44,7 @@ finish_level-requires g c =
     let k = (goal.at.finish_level-requires g c).In-Ok in
     let termed = c.climb_parents-climbed.ensures in
     let can : CanEnd Leaf c.args.settings.now (working g k) c.climb_parents-climbed.new.tree (leaves_seen c.args.dones.items) c.in-Ok.changed.groups.items c.climb_parents-climbed.result =
-    record { worked = here g k; ended = have_ended c.args.settings.now (working g k) c.climb_parents-climbed.new.tree c.climb_parents-climbed.result termed.climbed termed.low termed.back termed.err termed.high } in
+    record { updated = here g k; ended = have_ended c.args.settings.now (working g k) c.climb_parents-climbed.new.tree c.climb_parents-climbed.result termed.climbed termed.low termed.back termed.err termed.high } in
     (search, (working g k, can))
 
 pub returns-clause-climbed : goal.returns-clause-climbed
@@ -52,7 +52,7 @@ returns-clause-climbed g c =
     let k = (goal.at.returns-clause-climbed g c).In-Ok in
     let termed = c.climb_parents-climbed.ensures in
     let can : CanEnd Leaf c.args.settings.now (working g k) c.climb_parents-climbed.new.tree (leaves_seen c.args.dones.items) c.in-Ok.changed.groups.items c.climb_parents-climbed.result =
-    record { worked = here g k; ended = have_ended c.args.settings.now (working g k) c.climb_parents-climbed.new.tree c.climb_parents-climbed.result termed.climbed termed.low termed.back termed.err termed.high } in
+    record { updated = here g k; ended = have_ended c.args.settings.now (working g k) c.climb_parents-climbed.new.tree c.climb_parents-climbed.result termed.climbed termed.low termed.back termed.err termed.high } in
     ended_climbs can c.finish_level.new.tree c.finish_level.result c.finish_level.ensures.climbed
 
 pub returns-clause-err : goal.returns-clause-err
@@ -60,7 +60,7 @@ returns-clause-err g c =
     let k = (goal.at.returns-clause-err g c).In-Ok in
     let termed = c.climb_parents-climbed.ensures in
     let can : CanEnd Leaf c.args.settings.now (working g k) c.climb_parents-climbed.new.tree (leaves_seen c.args.dones.items) c.in-Ok.changed.groups.items c.climb_parents-climbed.result =
-    record { worked = here g k; ended = have_ended c.args.settings.now (working g k) c.climb_parents-climbed.new.tree c.climb_parents-climbed.result termed.climbed termed.low termed.back termed.err termed.high } in
+    record { updated = here g k; ended = have_ended c.args.settings.now (working g k) c.climb_parents-climbed.new.tree c.climb_parents-climbed.result termed.climbed termed.low termed.back termed.err termed.high } in
     ended_back can c.finish_level.new.tree c.finish_level.result c.finish_level.ensures.err
 
 pub returns-clause-high : goal.returns-clause-high
@@ -68,5 +68,5 @@ returns-clause-high g c =
     let k = (goal.at.returns-clause-high g c).In-Ok in
     let termed = c.climb_parents-climbed.ensures in
     let can : CanEnd Leaf c.args.settings.now (working g k) c.climb_parents-climbed.new.tree (leaves_seen c.args.dones.items) c.in-Ok.changed.groups.items c.climb_parents-climbed.result =
-    record { worked = here g k; ended = have_ended c.args.settings.now (working g k) c.climb_parents-climbed.new.tree c.climb_parents-climbed.result termed.climbed termed.low termed.back termed.err termed.high } in
+    record { updated = here g k; ended = have_ended c.args.settings.now (working g k) c.climb_parents-climbed.new.tree c.climb_parents-climbed.result termed.climbed termed.low termed.back termed.err termed.high } in
     ended_high can c.finish_level.new.tree c.finish_level.result c.finish_level.ensures.high

@@ -1,14 +1,14 @@
 use Rattle.std.proofs.Common.{◌≡◌, ◌<◌, ◌≤◌, ◌+◌, ◌++◌, ◌∷◌, [], ℕ, List, Option, length, take, drop, get_or, refl, sym, ap, subst, ◌∙◌, arith, append_assoc, append-nil}
 use Rattle.std.specs.Prelude.{flat_map}
 use Rattle.std.proofs.lemmas.List.{drop_more, drop_all}
-use Rattle.keys.specs.Bytes.{Names}
+use Rattle.keys.specs.Bytes.{Separators}
 use Rattle.keys.specs.Lists.{flat}
 use Rattle.keys.specs.Order.{IsRising}
 use Rattle.climb_plan.specs.Rewriting.{Remade, fresh_names, terms_of, terms_by_parent, CanTakeTerms}
 use Rattle.climb_plan.proofs.change.all_terms.Goals as goal
 
 -- the next parent, with the remaining groups
-module _ (p : ℕ × ℕ) (ps left : List (ℕ × ℕ)) (fs : List Names) (rs : List Remade) (next : left ≡ p ∷ ps) (can : CanTakeTerms left fs rs) where
+module _ (p : ℕ × ℕ) (ps left : List (ℕ × ℕ)) (fs : List Separators) (rs : List Remade) (next : left ≡ p ∷ ps) (can : CanTakeTerms left fs rs) where
   can_next : CanTakeTerms (p ∷ ps) fs rs
   can_next = subst (λ (xs : List (ℕ × ℕ)). CanTakeTerms xs fs rs) next can
 
@@ -22,7 +22,7 @@ module _ (p : ℕ × ℕ) (ps left : List (ℕ × ℕ)) (fs : List Names) (rs : 
     fresh_rise : IsRising (flat_map fresh_names own)
     fresh_rise = rw front can_next.3
 
-    module _ (later : List Remade) (back : later ≡ drop p.1 rs) (rest : List Names) (after : rest ≡ drop (length own) fs) where
+    module _ (later : List Remade) (back : later ≡ drop p.1 rs) (rest : List Separators) (after : rest ≡ drop (length own) fs) where
       can_more : CanTakeTerms ps rest later
       can_more = rw (after, count, back) can_next.4
 

@@ -14,11 +14,11 @@ loop-done-init g c = record {
 pub loop-done-preserved : goal.loop-done-preserved
 loop-done-preserved g c = record {
   made =
-      copied_more seen_now g.D.WorkedPage.seen_page c.loop-done.all.items c.push_reserved.new.self.items c.as_seen.result c.args.dones.now c.loop-done.done-index c.done-item.result c.loop-done-test.true
+      copied_more seen_now g.D.UpdatedPage.seen_page c.loop-done.all.items c.push_reserved.new.self.items c.as_seen.result c.args.dones.now c.loop-done.done-index c.done-item.result c.loop-done-test.true
       c.push_reserved.ensures.items c.as_seen.ensures c.done-item.is c.loop-done.invariant.made;
   count = omega (arith, c.push_reserved.ensures.len);
   room = rw c.push_reserved.ensures.capacity c.loop-done.invariant.room;
 }
 
 pub returns : goal.returns
-returns g c = c.loop-done.invariant.made ∙ ap (map g.D.WorkedPage.seen_page) (take_all c.loop-done.done-index c.args.dones.now c.loop-done-test.false)
+returns g c = c.loop-done.invariant.made ∙ ap (map g.D.UpdatedPage.seen_page) (take_all c.loop-done.done-index c.args.dones.now c.loop-done-test.false)

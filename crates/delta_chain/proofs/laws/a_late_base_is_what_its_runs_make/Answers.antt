@@ -1,4 +1,4 @@
-use Rattle.delta_chain.proofs.LateLemmas.{entries-seen, rising-seen, holds-seen, seen-early, seen-settled, seen-in_front}
+use Rattle.delta_chain.proofs.LazyLemmas.{entries-seen, rising-seen, holds-seen, seen-early, seen-merged_runs, seen-in_front}
 use Rattle.delta_chain.proofs.laws.a_late_base_is_what_its_runs_make.Goals as goal
 
 pub returns : goal.returns
@@ -7,6 +7,6 @@ returns g c = record {
   rising = rising-seen;
   holds = holds-seen;
   early = seen-early;
-  settled = seen-settled;
+  merged_runs = seen-merged_runs;
   in_front = seen-in_front;
 }

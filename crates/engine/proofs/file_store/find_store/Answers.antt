@@ -19,8 +19,8 @@ returns-in-Err-clause-kept g c =
     kept_found g.D.Disk.view g.D.Disk.failed c.args.disk refused.1 (g.met.D.Disk.lawful c.args.disk) c.in-Err.ensures.kept c.in-Err.ensures.seen file read
     c.find_unfinished.result c.find_unfinished.ensures.kept
 
-pub returns-in-Err-clause-settled : goal.returns-in-Err-clause-settled
-returns-in-Err-clause-settled g c honest =
+pub returns-in-Err-clause-is_synced : goal.returns-in-Err-clause-is_synced
+returns-in-Err-clause-is_synced g c honest =
     let refused = c.in-Err.refused in
     let (file, read, reported) = c.in-Err.ensures.read c.requires.crew in
     none_stored g.D.Disk.view g.D.Disk.failed c.args.disk refused.1 (g.met.D.Disk.lawful c.args.disk) c.in-Err.ensures.kept c.in-Err.ensures.seen file read

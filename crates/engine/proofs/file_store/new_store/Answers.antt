@@ -9,8 +9,8 @@ pub returns-in-Ok-clause-bytes : goal.returns-in-Ok-clause-bytes
 returns-in-Ok-clause-bytes g c honest =
     let view = g.D.Disk.view in
     let store = c.in-Ok.store in
-    let (is, settled) = c.in-Ok.ensures.bytes (subst IsTrue (sym c.in_ok-disk.ensures.honest) honest) in
-    (on_zeros c.args.settings (view c.in_ok-disk.disk) store.store (view store.disk).seen (search rules) is, settled)
+    let (is, is_synced) = c.in-Ok.ensures.bytes (subst IsTrue (sym c.in_ok-disk.ensures.honest) honest) in
+    (on_zeros c.args.settings (view c.in_ok-disk.disk) store.store (view store.disk).seen (search rules) is, is_synced)
 
 pub returns-in-Err-clause-refused : goal.returns-in-Err-clause-refused
 returns-in-Err-clause-refused g c file =

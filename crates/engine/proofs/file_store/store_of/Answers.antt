@@ -34,13 +34,13 @@ returns-in-Ok-Store-clause-bytes g c honest unfinished =
     let other = (stored_in file c.in-Ok-Store.field-0 c.in-Ok-Store.store c.in-Ok-Store.field-0-is is).0 in
     absurd (false≢true (sym other ∙ ap is_unfinished (read.honest honest) ∙ unfinished))
 
-pub returns-in-Ok-Store-clause-settled : goal.returns-in-Ok-Store-clause-settled
-returns-in-Ok-Store-clause-settled g c honest = stored_if _ c.in-Ok-Store.field-0 c.in-Ok-Store.store c.in-Ok-Store.field-0-is (c.in-Ok-Store.ensures.settled honest)
+pub returns-in-Ok-Store-clause-is_synced : goal.returns-in-Ok-Store-clause-is_synced
+returns-in-Ok-Store-clause-is_synced g c honest = stored_if _ c.in-Ok-Store.field-0 c.in-Ok-Store.store c.in-Ok-Store.field-0-is (c.in-Ok-Store.ensures.is_synced honest)
 
 pub returns-in-Ok-Nothing-clause-bytes : goal.returns-in-Ok-Nothing-clause-bytes
 returns-in-Ok-Nothing-clause-bytes g c honest unfinished =
     if_ok_first c.new_store.result _ _ (c.new_store.ensures.bytes (honest_nothing g.D.Disk.view (g.D.Disk.view c.args.disk) c.in-Ok-Nothing.field-0 c.in-Ok-Nothing.disk c.in-Ok-Nothing.field-0-is c.in-Ok-Nothing.ensures.kept honest))
 
-pub returns-in-Ok-Nothing-clause-settled : goal.returns-in-Ok-Nothing-clause-settled
-returns-in-Ok-Nothing-clause-settled g c honest =
+pub returns-in-Ok-Nothing-clause-is_synced : goal.returns-in-Ok-Nothing-clause-is_synced
+returns-in-Ok-Nothing-clause-is_synced g c honest =
     if_ok_second c.new_store.result _ _ (c.new_store.ensures.bytes (honest_nothing g.D.Disk.view (g.D.Disk.view c.args.disk) c.in-Ok-Nothing.field-0 c.in-Ok-Nothing.disk c.in-Ok-Nothing.field-0-is c.in-Ok-Nothing.ensures.kept honest))

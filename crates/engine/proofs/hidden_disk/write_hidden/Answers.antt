@@ -16,8 +16,8 @@ returns-in_err-first g c =
       kept = c.first_byte.ensures.kept;
       failed = c.in_err-first.ensures.failed;
       written = λ _. tt;
-      settled = λ _. tt;
-      crash = λ settled. leaves_the_same old (g.D.Disk.view c.first_byte.new.disk) (IsLeftHiding old.seen) (g.met.D.Disk.lawful c.args.disk.now settled.honest) (c.first_byte.ensures.same settled.honest) settled (inl refl);
+      is_synced = λ _. tt;
+      crash = λ is_synced. leaves_the_same old (g.D.Disk.view c.first_byte.new.disk) (IsLeftHiding old.seen) (g.met.D.Disk.lawful c.args.disk.now is_synced.honest) (c.first_byte.ensures.same is_synced.honest) is_synced (inl refl);
     })
 
 pub returns-in_err-clear_first : goal.returns-in_err-clear_first
@@ -31,11 +31,11 @@ returns-in_err-clear_first g c =
       kept = kept_then old mid new kept c.clear_first.ensures.kept;
       failed = c.in_err-clear_first.ensures.failed ∙ ap (λ (n : ℕ). min (n + 1) (2 ^ 64 - 1)) c.in_ok-first.ensures.failed;
       written = λ _. tt;
-      settled = λ _. tt;
-      crash = λ settled. (
-          let same = c.first_byte.ensures.same settled.honest in
+      is_synced = λ _. tt;
+      crash = λ is_synced. (
+          let same = c.first_byte.ensures.same is_synced.honest in
           left_after old mid new (IsLeftHiding old.seen) same
-          (subst (λ (f : List ℕ). LeavesOnly mid new (IsLeftHiding f)) same.seen (c.clear_first.ensures.crash (settled_still old mid kept same settled))));
+          (subst (λ (f : List ℕ). LeavesOnly mid new (IsLeftHiding f)) same.seen (c.clear_first.ensures.crash (settled_still old mid kept same is_synced))));
     })
 
 pub returns-clause-written : goal.returns-clause-written

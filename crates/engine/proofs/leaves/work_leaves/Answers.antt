@@ -2,7 +2,7 @@ use Rattle.std.proofs.Common.{◌∙◌}
 use denote.Exit.{no}
 use denote.Param.Send.{param_send, arg_send, sendable}
 use Rattle.engine.proofs.Crossing.{task_done_send, work_sync}
-use Rattle.engine.proofs.TaskLemmas.{written_home, written_distinct, may_be_worked, made_is, as_many, answers_there, changed_there, held_there, again_away, again_before}
+use Rattle.engine.proofs.TaskLemmas.{written_home, written_distinct, may_be_updated, made_is, as_many, answers_there, changed_there, held_there, again_away, again_before}
 use Rattle.engine.proofs.leaves.work_leaves.Goals as goal
 
 pub take_leaves-requires : goal.take_leaves-requires
@@ -10,7 +10,7 @@ take_leaves-requires g c = (c.requires.routes.home, c.requires.routes.distinct)
 
 pub run_round-requires-after_bounds : goal.run_round-requires-after_bounds
 run_round-requires-after_bounds g c κs within =
-    may_be_worked c.args.work.now.settings c.args.work.now.commands.now c.args.tree.now _ c.args.page_runs.items c.requires.routes c.in_ok-tasks.ensures.taken c.in_ok-tasks.tasks.items c.in_ok-tasks.ensures.held
+    may_be_updated c.args.work.now.settings c.args.work.now.commands.now c.args.tree.now _ c.args.page_runs.items c.requires.routes c.in_ok-tasks.ensures.taken c.in_ok-tasks.tasks.items c.in_ok-tasks.ensures.held
 
 pub run_round-requires-send-W-Done : goal.run_round-requires-send-W-Done
 run_round-requires-send-W-Done g c κs within = param_send _ _ (arg_send _ no _ task_done_send)

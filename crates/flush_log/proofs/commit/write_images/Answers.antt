@@ -18,8 +18,8 @@ returns-then-is_empty-clause-crash g c text of either honest =
 
 pub returns-clause-written : goal.returns-clause-written
 returns-clause-written g c text of either honest =
-    c.write_text.ensures.written text of (some_text c.args.images.now (length text) (sym c.is_empty.ensures ∙ c.if-is_empty.false) either) honest
+    c.write_frames.ensures.written text of (some_text c.args.images.now (length text) (sym c.is_empty.ensures ∙ c.if-is_empty.false) either) honest
 
 pub returns-clause-crash : goal.returns-clause-crash
 returns-clause-crash g c text of either honest =
-    c.write_text.ensures.crash text of (some_text c.args.images.now (length text) (sym c.is_empty.ensures ∙ c.if-is_empty.false) either) honest
+    c.write_frames.ensures.crash text of (some_text c.args.images.now (length text) (sym c.is_empty.ensures ∙ c.if-is_empty.false) either) honest

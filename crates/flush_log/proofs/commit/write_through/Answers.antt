@@ -12,8 +12,8 @@ returns-in_err-write_at-clause-failed g c = counts_failed c.from_residual.result
 pub returns-in_err-write_at-clause-written : goal.returns-in_err-write_at-clause-written
 returns-in_err-write_at-clause-written g c honest = owes_nothing c.from_residual.result _ c.from_residual.ensures.0
 
-pub returns-in_err-write_at-clause-settled : goal.returns-in_err-write_at-clause-settled
-returns-in_err-write_at-clause-settled g c honest = owes_nothing c.from_residual.result _ c.from_residual.ensures.0
+pub returns-in_err-write_at-clause-is_synced : goal.returns-in_err-write_at-clause-is_synced
+returns-in_err-write_at-clause-is_synced g c honest = owes_nothing c.from_residual.result _ c.from_residual.ensures.0
 
 pub returns-in_err-write_at-clause-crash : goal.returns-in_err-write_at-clause-crash
 returns-in_err-write_at-clause-crash g c = c.write_at.ensures.crash
@@ -29,8 +29,8 @@ returns-clause-written g c honest =
     let still = subst IsTrue (sym c.write_at.ensures.kept.honest) honest in
     always c.sync.result (c.sync.ensures.seen still ∙ c.in_ok-write_at.ensures.written honest)
 
-pub returns-clause-settled : goal.returns-clause-settled
-returns-clause-settled g c honest = c.sync.ensures.settled (subst IsTrue (sym c.write_at.ensures.kept.honest) honest)
+pub returns-clause-is_synced : goal.returns-clause-is_synced
+returns-clause-is_synced g c honest = c.sync.ensures.is_synced (subst IsTrue (sym c.write_at.ensures.kept.honest) honest)
 
 pub returns-clause-crash : goal.returns-clause-crash
 returns-clause-crash g c honest =

@@ -1,6 +1,6 @@
 use Rattle.std.proofs.Common.{◌∙◌, ◌≡◌, ap, ◌++◌, ◌∷◌, [], false, rules}
 use Rattle.mapping.specs.TreeInMemory.{tree_of}
-use Rattle.flush_log.specs.FlushText.{text_of}
+use Rattle.flush_log.specs.FlushText.{commit_frames}
 use Rattle.flush_log.specs.ImageWork.{ImageHeld, job_held}
 use Rattle.flush_log.proofs.TextImages.{some_due, jobs-start, jobs-push, due-push}
 use Rattle.flush_log.proofs.text.all_jobs.Goals as goal
@@ -22,6 +22,6 @@ loop-pid-preserved-then-not-is_written c =
     some_due c.args.text t c.in-Some.pid job.page job.logged c.is_written.result (ap (λ (h : ImageHeld). h.page) c.job_of-job.ensures) (ap (λ (h : ImageHeld). h.logged) c.job_of-job.ensures) c.is_written.ensures fails in
     let items : c.push_reserved.new.self.items ≡ c.loop-pid.jobs.items ++ c.job_of-job.result ∷ [] = cc (c.push_reserved.ensures.items, c.in_ok-reserve.ensures.items) in
     record {
-      text = jobs-push c.args.text t c.loop-pid.jobs.items c.push_reserved.new.self.items c.job_of-job.result c.in-Some.pid c.loop-pid.pid-iterator c.next.new.self (text_of c.args.text t) items c.job_of-job.ensures c.in-Some.ensures.steps c.loop-pid.invariant.text;
+      text = jobs-push c.args.text t c.loop-pid.jobs.items c.push_reserved.new.self.items c.job_of-job.result c.in-Some.pid c.loop-pid.pid-iterator c.next.new.self (commit_frames c.args.text t) items c.job_of-job.ensures c.in-Some.ensures.steps c.loop-pid.invariant.text;
       due = due-push c.args.text t c.loop-pid.jobs.items c.push_reserved.new.self.items c.job_of-job.result c.in-Some.pid items c.job_of-job.ensures c.loop-pid.invariant.due (c.requires.writable c.in-Some.pid, due);
     }

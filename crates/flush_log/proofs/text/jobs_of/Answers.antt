@@ -1,7 +1,7 @@
 use Rattle.std.proofs.Common.{◌≡◌, ap, ◌+◌, ◌++◌, ◌∷◌, [], flat_map, drop, get_or, map, true, false, rules}
 use Rattle.std.proofs.lemmas.List.{drop_more}
 use Rattle.mapping.specs.TreeInMemory.{tree_of}
-use Rattle.flush_log.specs.FlushText.{pid_text}
+use Rattle.flush_log.specs.FlushText.{pid_frames}
 use Rattle.flush_log.specs.ImageWork.{ImageHeld, job_held}
 use Rattle.flush_log.proofs.TextImages.{some_due, jobs-push, jobs-skip, due-push}
 use Rattle.flush_log.proofs.text.jobs_of.Goals as goal
@@ -16,7 +16,7 @@ loop-pid-preserved c =
     let from = drop at pids in
     let left = drop (at + 1) pids in
     let next = drop_more pids at 0 c.loop-pid-test.true in
-    let all = flat_map (pid_text c.args.text t) pids in
+    let all = flat_map (pid_frames c.args.text t) pids in
     let job : ImageHeld = job_held c.job_of-job.result in
     elim c.if-not-is_written.branch [
       | then-not-is_written+in_ok-reserve w ↦

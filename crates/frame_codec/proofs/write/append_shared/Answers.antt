@@ -1,39 +1,39 @@
 use Rattle.std.proofs.Common.{◌≤◌, length, refl, arith}
-use Rattle.frame_codec.specs.declared.format.Spelling.TheVariants.{Shared}
-use Rattle.frame_codec.proofs.WriteLemmas.{spellable-at, tested-next, tested-done, upto-none, upto-room, upto-next, upto-done}
+use Rattle.frame_codec.specs.declared.format.KeyEncoding.TheVariants.{PrefixCompressed}
+use Rattle.frame_codec.proofs.WriteLemmas.{encodable-at, tested-next, tested-done, upto-none, upto-room, upto-next, upto-done}
 use Rattle.frame_codec.proofs.write.append_shared.Goals as goal
 
 pub loop-at-init : goal.loop-at-init
-loop-at-init g c = (upto-none Shared g.V.Spelled.codec c.args.low.now c.args.base.now c.args.out.now, refl)
+loop-at-init g c = (upto-none PrefixCompressed g.V.FrameItem.codec c.args.low.now c.args.base.now c.args.out.now, refl)
 
 pub append_sharing-requires-clause-small : goal.append_sharing-requires-clause-small
-append_sharing-requires-clause-small g c = (spellable-at g.V.Spelled.codec c.args.base.now c.loop-at.at c.key-key.result.now c.cell-cell.result.now c.requires.small c.key-key.ensures c.cell-cell.ensures).0
+append_sharing-requires-clause-small g c = (encodable-at g.V.FrameItem.codec c.args.base.now c.loop-at.at c.key-key.result.now c.cell-cell.result.now c.requires.small c.key-key.ensures c.cell-cell.ensures).0
 
 pub append_sharing-requires-clause-room : goal.append_sharing-requires-clause-room
 append_sharing-requires-clause-room g c =
-    let room = upto-room Shared g.V.Spelled.codec c.args.low.now c.args.base.now c.loop-at.before.now c.loop-at.at c.args.out.now c.loop-at.out c.loop-at.invariant.0 c.key-key.result.now c.cell-cell.result.now c.requires.room c.key-key.ensures c.cell-cell.ensures in
+    let room = upto-room PrefixCompressed g.V.FrameItem.codec c.args.low.now c.args.base.now c.loop-at.before.now c.loop-at.at c.args.out.now c.loop-at.out c.loop-at.invariant.0 c.key-key.result.now c.cell-cell.result.now c.requires.room c.key-key.ensures c.cell-cell.ensures in
     omega arith
 
 pub append-requires-clause-small : goal.append-requires-clause-small
-append-requires-clause-small g c = (spellable-at g.V.Spelled.codec c.args.base.now c.loop-at.at c.key-key.result.now c.cell-cell.result.now c.requires.small c.key-key.ensures c.cell-cell.ensures).1
+append-requires-clause-small g c = (encodable-at g.V.FrameItem.codec c.args.base.now c.loop-at.at c.key-key.result.now c.cell-cell.result.now c.requires.small c.key-key.ensures c.cell-cell.ensures).1
 
 pub append-requires-clause-room : goal.append-requires-clause-room
 append-requires-clause-room g c =
-    let room = upto-room Shared g.V.Spelled.codec c.args.low.now c.args.base.now c.loop-at.before.now c.loop-at.at c.args.out.now c.loop-at.out c.loop-at.invariant.0 c.key-key.result.now c.cell-cell.result.now c.requires.room c.key-key.ensures c.cell-cell.ensures in
+    let room = upto-room PrefixCompressed g.V.FrameItem.codec c.args.low.now c.args.base.now c.loop-at.before.now c.loop-at.at c.args.out.now c.loop-at.out c.loop-at.invariant.0 c.key-key.result.now c.cell-cell.result.now c.requires.room c.key-key.ensures c.cell-cell.ensures in
     let len = c.append_sharing.ensures.len in
     let more = c.append_sharing.ensures.room in
     omega arith
 
 pub loop-at-preserved : goal.loop-at-preserved
 loop-at-preserved g c = (
-  upto-next Shared g.V.Spelled.codec c.args.low.now c.args.base.now c.loop-at.before.now c.loop-at.at c.args.out.now c.loop-at.out c.loop-at.invariant.0 c.append_sharing.new.out c.append.new.out c.key-key.result.now c.cell-cell.result.now c.key-key.ensures c.cell-cell.ensures c.append_sharing.ensures c.append.ensures.bytes,
+  upto-next PrefixCompressed g.V.FrameItem.codec c.args.low.now c.args.base.now c.loop-at.before.now c.loop-at.at c.args.out.now c.loop-at.out c.loop-at.invariant.0 c.append_sharing.new.out c.append.new.out c.key-key.result.now c.cell-cell.result.now c.key-key.ensures c.cell-cell.ensures c.append_sharing.ensures c.append.ensures.bytes,
   tested-next (λ e. g.V.FrameCell.is_word e.1) c.args.base.now c.loop-at.at c.key-key.result.now c.cell-cell.result.now c.key-key.ensures c.cell-cell.ensures c.append.ensures.word c.loop-at.invariant.1,
 )
 
 pub returns-clause-bytes : goal.returns-clause-bytes
 returns-clause-bytes g c =
     let all : length c.args.base.now ≤ c.loop-at.at = omega (arith, c.loop-at-test.false, c.len-at-end.ensures.count) in
-    upto-done Shared g.V.Spelled.codec c.args.low.now c.args.base.now c.loop-at.before.now c.loop-at.at c.args.out.now c.loop-at.out c.loop-at.invariant.0 all
+    upto-done PrefixCompressed g.V.FrameItem.codec c.args.low.now c.args.base.now c.loop-at.before.now c.loop-at.at c.args.out.now c.loop-at.out c.loop-at.invariant.0 all
 
 pub returns-clause-words : goal.returns-clause-words
 returns-clause-words g c =

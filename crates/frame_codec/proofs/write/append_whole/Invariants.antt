@@ -1,11 +1,11 @@
 use Rattle.std.proofs.Common.{◌≡◌, [], drop}
 use Rattle.std.specs.List.{list_all}
-use Rattle.frame_codec.specs.declared.format.Spelling.TheVariants.{Whole}
+use Rattle.frame_codec.specs.declared.format.KeyEncoding.TheVariants.{Whole}
 use Rattle.frame_codec.proofs.WriteLemmas.{IsUpTo}
 use Rattle.frame_codec.proofs.write.append_whole.Given as goal
 
 -- the entries before this place were appended, and each of their cells is valid
 abbrev pub invariant-loop-at : goal.invariant-loop-at
 invariant-loop-at g l =
-    IsUpTo Whole g.V.Spelled.codec [] l.base [] l.at l.initial.out l.out
+    IsUpTo Whole g.V.FrameItem.codec [] l.base [] l.at l.initial.out l.out
     × (list_all (λ e. g.V.FrameCell.is_word e.1) (drop l.at l.base) ≡ list_all (λ e. g.V.FrameCell.is_word e.1) l.base)

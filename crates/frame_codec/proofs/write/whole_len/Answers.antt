@@ -1,33 +1,33 @@
 use Rattle.std.proofs.Common.{[], length, ap, arith}
-use Rattle.frame_codec.specs.declared.format.Spelling.TheVariants.{Whole}
-use Rattle.frame_codec.proofs.WriteLemmas.{spellable-at, length-following, spelled-at_end}
+use Rattle.frame_codec.specs.declared.format.KeyEncoding.TheVariants.{Whole}
+use Rattle.frame_codec.proofs.WriteLemmas.{encodable-at, length-following, encoded-at_end}
 use Rattle.frame_codec.proofs.write.whole_len.Goals as goal
 
-pub spelled_len-requires : goal.spelled_len-requires
-spelled_len-requires g c = (spellable-at g.V.Spelled.codec c.args.base.now c.loop-at.at c.key.result.now c.cell.result.now c.requires.small c.key.ensures c.cell.ensures).1
+pub encoded_len-requires : goal.encoded_len-requires
+encoded_len-requires g c = (encodable-at g.V.FrameItem.codec c.args.base.now c.loop-at.at c.key.result.now c.cell.result.now c.requires.small c.key.ensures c.cell.ensures).1
 
 pub overflow_add-len-in-loop-at : goal.overflow_add-len-in-loop-at
 overflow_add-len-in-loop-at g c =
-    let small = spellable-at g.V.Spelled.codec c.args.base.now c.loop-at.at c.key.result.now c.cell.result.now c.requires.small c.key.ensures c.cell.ensures in
+    let small = encodable-at g.V.FrameItem.codec c.args.base.now c.loop-at.at c.key.result.now c.cell.result.now c.requires.small c.key.ensures c.cell.ensures in
     let key = small.0 in
     let cell = small.1 in
-    omega (arith, c.spelled_len.ensures)
+    omega (arith, c.encoded_len.ensures)
 
 pub overflow_add-len-in-loop-at-2 : goal.overflow_add-len-in-loop-at-2
 overflow_add-len-in-loop-at-2 g c =
-    let following = length-following Whole g.V.Spelled.codec [] c.args.base.now [] c.loop-at.at c.key.result.now c.cell.result.now c.key.ensures c.cell.ensures in
+    let following = length-following Whole g.V.FrameItem.codec [] c.args.base.now [] c.loop-at.at c.key.result.now c.cell.result.now c.key.ensures c.cell.ensures in
     let invariant = c.loop-at.invariant in
     let few = c.requires.few in
-    omega (arith, c.spelled_len.ensures)
+    omega (arith, c.encoded_len.ensures)
 
 pub loop-at-preserved : goal.loop-at-preserved
 loop-at-preserved g c =
-    let following = length-following Whole g.V.Spelled.codec [] c.args.base.now [] c.loop-at.at c.key.result.now c.cell.result.now c.key.ensures c.cell.ensures in
+    let following = length-following Whole g.V.FrameItem.codec [] c.args.base.now [] c.loop-at.at c.key.result.now c.cell.result.now c.key.ensures c.cell.ensures in
     let invariant = c.loop-at.invariant in
-    omega (arith, c.spelled_len.ensures)
+    omega (arith, c.encoded_len.ensures)
 
 pub returns : goal.returns
 returns g c =
-    let none = ap length (spelled-at_end Whole g.V.Spelled.codec [] c.args.base.now [] c.loop-at.at (omega (arith, c.loop-at-test.false, c.len-at-end.ensures.count))) in
+    let none = ap length (encoded-at_end Whole g.V.FrameItem.codec [] c.args.base.now [] c.loop-at.at (omega (arith, c.loop-at-test.false, c.len-at-end.ensures.count))) in
     let invariant = c.loop-at.invariant in
     omega arith

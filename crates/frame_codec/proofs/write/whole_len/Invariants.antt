@@ -1,9 +1,9 @@
 use Rattle.std.proofs.Common.{◌≡◌, ◌+◌, [], length}
-use Rattle.frame_codec.specs.declared.format.Spelling.TheVariants.{Whole}
-use Rattle.frame_codec.proofs.WriteLemmas.{spelled_from}
+use Rattle.frame_codec.specs.declared.format.KeyEncoding.TheVariants.{Whole}
+use Rattle.frame_codec.proofs.WriteLemmas.{encoded_from}
 use Rattle.frame_codec.proofs.write.whole_len.Given as goal
 
 -- the size of the entries from this place on is added
 abbrev pub invariant-loop-at : goal.invariant-loop-at
 invariant-loop-at g l =
-    l.len + length (spelled_from Whole g.V.Spelled.codec [] l.base [] l.at) ≡ length (spelled_from Whole g.V.Spelled.codec [] l.base [] 0)
+    l.len + length (encoded_from Whole g.V.FrameItem.codec [] l.base [] l.at) ≡ length (encoded_from Whole g.V.FrameItem.codec [] l.base [] 0)

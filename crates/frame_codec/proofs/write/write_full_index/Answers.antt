@@ -6,10 +6,10 @@ use Rattle.frame_codec.proofs.write.write_full_index.Goals as goal
 
 pub write_full-requires : goal.write_full-requires
 write_full-requires c =
-    let (key, entries) = index-short c.args.spelling c.args.low.now c.args.base.now c.requires in
+    let (key, entries) = index-short c.args.encoding c.args.low.now c.args.base.now c.requires in
     let few = entries.count in
-    record { low = omega arith; count = omega arith; small = entries.small; few = full-few c.args.spelling pid_cell c.args.low.now c.args.base.now key entries }
+    record { low = omega arith; count = omega arith; small = entries.small; few = full-few c.args.encoding pid_cell c.args.low.now c.args.base.now key entries }
 
 pub returns-clause-words : goal.returns-clause-words
 returns-clause-words c =
-    on_ok_weaker c.write_full.result (λ w. index-words c.args.pid c.args.spelling c.args.low.now c.args.base.now w.0 w.1) c.write_full.ensures.words
+    on_ok_weaker c.write_full.result (λ w. index-words c.args.pid c.args.encoding c.args.low.now c.args.base.now w.0 w.1) c.write_full.ensures.words

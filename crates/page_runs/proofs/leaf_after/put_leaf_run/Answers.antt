@@ -1,6 +1,6 @@
 use Rattle.std.proofs.Common.{◌≡◌, ◌<◌, ◌∙◌, arith, length, IfOk}
 use Rattle.std.specs.Prelude.{Result, Ok, Err}
-use Rattle.delta_chain.specs.Late.{seen}
+use Rattle.delta_chain.specs.Lazy.{seen}
 use Rattle.page_runs.specs.AfterRun.{after_run, class_after}
 use Rattle.page_runs.specs.LeafOutcome.{leaf_class_now}
 use Rattle.page_runs.proofs.LeafAfter.{page_replaced, class_replaced, page_in_front}
@@ -28,4 +28,4 @@ returns-in-Ok-clause-class c =
 pub returns-in-Ok-2-clause-page : goal.returns-in-Ok-2-clause-page
 returns-in-Ok-2-clause-page c =
     let some : 0 < length c.args.run = omega (arith, c.len.ensures.count, c.if-len-eq0.false) in
-    page_in_front c.args.settings.now c.args.page c.prepend.new.self c.args.run c.in-Ok-2.ensures.ok c.settled-settled.ensures.within some c.if-must_replace.ensures
+    page_in_front c.args.settings.now c.args.page c.prepend.new.self c.args.run c.in-Ok-2.ensures.ok c.merged_runs-merged_runs.ensures.within some c.if-must_replace.ensures

@@ -2,7 +2,7 @@ use Rattle.std.proofs.Common.{◌≡◌, ℕ, ◌+◌, ◌-◌, refl, sym, subst
 use Rattle.std.specs.List.{length_refill}
 use Rattle.flush_log.specs.Reading.{read_earlier}
 use Rattle.flush_log.specs.Segments.{last_segment}
-use Rattle.recovery.specs.Gathered.{IsSoFar}
+use Rattle.recovery.specs.Gathered.{IsPartialLog}
 use Rattle.recovery.specs.Recovered.{IsLate}
 use Rattle.recovery.proofs.ReadBytes.{IsUncounted, kept_self, same_self, kept_then, same_then, same_on, late_since, err_on, not_ok}
 use Rattle.recovery.proofs.ReadLog.{none-read, round-more, is_last}
@@ -22,7 +22,7 @@ loop-first-init g c =
       kept = kept_self start;
       same = λ honest. same_self start;
       counted = refl;
-      read = λ w file is none. (file, none-read (IsSoFar w c.args.so_far.now.gathering c.args.so_far.now.fault) start format t.head (t.head - t.head) file (omega arith) is none);
+      read = λ w file is none. (file, none-read (IsPartialLog w c.args.so_far.now.gathering c.args.so_far.now.fault) start format t.head (t.head - t.head) file (omega arith) is none);
     }
 
 pub read_whole-requires-clause-within : goal.read_whole-requires-clause-within
@@ -59,7 +59,7 @@ loop-first-preserved g c =
           let (now, upto) = so_far.read w file is none in
           let (then, bytes, front, state) = c.in_ok-segments.ensures.read now t.head upto.bytes from (omega (arith, free, few, less, last, from)) in (
             then,
-            round-more (IsSoFar w c.loop-first.so_far.gathering c.loop-first.so_far.fault) (IsSoFar w c.take.new.self.gathering c.take.new.self.fault) old new format t.head (n - t.head) (n + count - t.head) c.in_ok-segments.segments.items file now then
+            round-more (IsPartialLog w c.loop-first.so_far.gathering c.loop-first.so_far.fault) (IsPartialLog w c.take.new.self.gathering c.take.new.self.fault) old new format t.head (n - t.head) (n + count - t.head) c.in_ok-segments.segments.items file now then
                 upto bytes front state (c.in_ok-take.ensures.ok w),
           );
     }
@@ -160,4 +160,4 @@ returns-clause-read g c w file is none =
     let over = c.loop-first-test.false in
     let all : c.loop-first.first - t.head ≡ last_segment s t.tail - t.head = omega (arith, last, upto, over) in
     let (now, read) = c.loop-first.invariant.read w file is none in
-    (now, read.bytes, read.front, subst (λ (k : ℕ). IsSoFar w c.loop-first.so_far.gathering c.loop-first.so_far.fault (read_earlier format now t.head k)) all read.found)
+    (now, read.bytes, read.front, subst (λ (k : ℕ). IsPartialLog w c.loop-first.so_far.gathering c.loop-first.so_far.fault (read_earlier format now t.head k)) all read.found)

@@ -2,7 +2,7 @@ use Rattle.std.proofs.Common.{◌≡◌, ◌≤◌, ◌-◌, [], IsTrue, Ok, len
 use Rattle.keys.specs.Bytes.{Bytes}
 use Rattle.flush_log.specs.Disk.{Kept, Same}
 use Rattle.flush_log.specs.Segments.{last_segment}
-use Rattle.recovery.specs.Gathered.{IsSoFar}
+use Rattle.recovery.specs.Gathered.{IsPartialLog}
 use Rattle.recovery.specs.Recovered.{IsReadOf}
 use Rattle.recovery.specs.declared.gather.Wanted.{Wanted}
 use Rattle.recovery.proofs.ReadLog.{AreReadUpto}
@@ -19,8 +19,8 @@ invariant-loop-first g l =
       kept : Kept (disk.view l.fn.disk) (disk.view l.disk);
       same : IsTrue (disk.view l.fn.disk).is_honest → Same (disk.view l.fn.disk) (disk.view l.disk);
       counted : disk.failed l.disk ≡ disk.failed l.fn.disk;
-      read : (w : Wanted) (file : Bytes) → IsReadOf (disk.view l.fn.disk) file → IsSoFar w l.fn.so_far.gathering l.fn.so_far.fault (Ok []) →
-          (now : Bytes) × AreReadUpto (IsSoFar w l.so_far.gathering l.so_far.fault) (disk.view l.disk) l.format l.ends.head (l.first - l.ends.head) file now;
+      read : (w : Wanted) (file : Bytes) → IsReadOf (disk.view l.fn.disk) file → IsPartialLog w l.fn.so_far.gathering l.fn.so_far.fault (Ok []) →
+          (now : Bytes) × AreReadUpto (IsPartialLog w l.so_far.gathering l.so_far.fault) (disk.view l.disk) l.format l.ends.head (l.first - l.ends.head) file now;
     }
 
 abbrev pub decreases-loop-first : goal.decreases-loop-first

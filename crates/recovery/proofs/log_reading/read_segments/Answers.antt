@@ -1,7 +1,7 @@
 use Rattle.std.proofs.Common.{◌-◌, ◌∙◌}
 use Rattle.flush_log.specs.Reading.{read_earlier, log_between}
 use Rattle.flush_log.specs.Segments.{last_segment}
-use Rattle.recovery.specs.Gathered.{IsSoFar}
+use Rattle.recovery.specs.Gathered.{IsPartialLog}
 use Rattle.recovery.specs.Recovered.{IsLate}
 use Rattle.recovery.proofs.ReadBytes.{IsUncounted, kept_then, same_on, late_since, err_on, not_ok, counted_by, uncounted_by, late_by_memory}
 use Rattle.recovery.proofs.ReadLog.{ReadResult, last-taken}
@@ -76,7 +76,7 @@ returns-clause-read g c w file is none =
     let (now, bytes, front, state) = c.in_ok-read_earlier.ensures.read w file is none in
     let (then, got, stays, all) = c.in_ok-segments.ensures.read now bytes in
     let earlier : ReadResult = read_earlier format now t.head (last_segment format.settings t.tail - t.head) in
-    (then, got, stays ∙ front, last-taken c.take.result (IsSoFar w c.take.new.self.gathering c.take.new.self.fault) _ (log_between format then t.head t.tail) all (c.take.ensures.ok w earlier state))
+    (then, got, stays ∙ front, last-taken c.take.result (IsPartialLog w c.take.new.self.gathering c.take.new.self.fault) _ (log_between format then t.head t.tail) all (c.take.ensures.ok w earlier state))
 
 pub returns-clause-err : goal.returns-clause-err
 returns-clause-err g c = let failed = g.D.Disk.failed in late_by_memory c.take.result (failed c.args.disk.now) (failed c.read_last.new.disk) c.take.ensures.err

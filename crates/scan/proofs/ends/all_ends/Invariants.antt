@@ -5,7 +5,7 @@ use Rattle.keys.specs.Narrowed.{MayEndAtAll}
 use Rattle.mapping.specs.Levels.{levels_of, names, contents}
 use Rattle.mapping.specs.TreeInMemory.{tree_of}
 use Rattle.scan.specs.Ends.{deleted, wiped}
-use Rattle.scan.specs.Taken.{IsTaken, AreReady}
+use Rattle.scan.specs.Deletions.{IsTaken, AreReady}
 use Rattle.scan.proofs.ends.all_ends.Given as goal
 
 -- there is an end for each command so far, and what these commands delete is counted

@@ -3,7 +3,7 @@ use Rattle.std.proofs.Common.{refl, sym, subst, ap, ◌∙◌, arith, Ordering}
 use Rattle.std.specs.Ordering.{is_lt}
 use Rattle.keys.specs.Range.{is_below}
 use Rattle.delta_chain.specs.Layers.{entries_of}
-use Rattle.scan.specs.Taken.{IsTakenBelow}
+use Rattle.scan.specs.Deletions.{IsTakenBelow}
 use Rattle.scan.proofs.Enough.{none_certain, some_certain, after_certain, later_lo, later_low}
 use Rattle.scan.proofs.ends.certain_pairs.Goals as goal
 

@@ -2,15 +2,15 @@ use Rattle.std.specs.Prelude.{◌≡◌, ℕ, Bool, true, false, ◌&&◌, List,
 use Rattle.std.proofs.Common.{refl, sym, subst, ◌∙◌, arith}
 use Rattle.std.specs.Option.{option_copied}
 use Rattle.keys.specs.Range.{is_before, is_below}
-use Rattle.delta_chain.specs.Late.{seen}
+use Rattle.delta_chain.specs.Lazy.{seen}
 use Rattle.mapping.specs.Levels.{levels_of}
 use Rattle.mapping.specs.TreeInMemory.{tree_of}
 use Rattle.scan.specs.Path.{leaf_with}
-use Rattle.scan.specs.Taken.{IsTakenBelow}
+use Rattle.scan.specs.Deletions.{IsTakenBelow}
 use Rattle.scan.proofs.RowLemmas.{root_is_there}
 use Rattle.scan.proofs.Enough.{later_low}
 use Rattle.scan.proofs.Counting.{not_both_below}
-use Rattle.scan.proofs.LateLemmas.{late_part}
+use Rattle.scan.proofs.LazyLemmas.{late_part}
 use Rattle.scan.proofs.EndLemmas.{passing_first, passing_on, certain_on, enough_on}
 use Rattle.scan.proofs.ends.end_of_scan.Goals as goal
 

@@ -1,10 +1,10 @@
 use Rattle.std.proofs.Common.{length}
-use Rattle.delta_chain.specs.Late.{seen}
+use Rattle.delta_chain.specs.Lazy.{seen}
 use Rattle.mapping.specs.Levels.{levels_of, contents}
 use Rattle.mapping.specs.TreeInMemory.{tree_of}
 use Rattle.scan.specs.Path.{leaf_with}
-use Rattle.scan.specs.Ends.{Taken, later}
-use Rattle.scan.specs.Taken.{IsTaken, IsTakenBelow}
+use Rattle.scan.specs.Ends.{Deletions, later}
+use Rattle.scan.specs.Deletions.{IsTaken, IsTakenBelow}
 use Rattle.scan.proofs.EndLemmas.{IsPassing, AreCertainBefore}
 use Rattle.scan.proofs.ends.end_of_scan.Given as goal
 
@@ -12,8 +12,8 @@ use Rattle.scan.proofs.ends.end_of_scan.Given as goal
 abbrev pub invariant-loop-next : goal.invariant-loop-next
 invariant-loop-next l = record {
   passing : IsPassing (levels_of (tree_of l.tree)).level (leaf_with l.leaf.0.now (seen l.leaf.1.now)) l.leaves;
-  before : (gone : Taken) → IsTaken gone l.taken → IsTakenBelow gone (later l.leaf.0.now l.lo) l.before;
-  certain : (gone : Taken) → IsTaken gone l.taken → AreCertainBefore gone (contents (tree_of l.tree)) l.lo l.leaf.0.now l.certain;
+  before : (gone : Deletions) → IsTaken gone l.taken → IsTakenBelow gone (later l.leaf.0.now l.lo) l.before;
+  certain : (gone : Deletions) → IsTaken gone l.taken → AreCertainBefore gone (contents (tree_of l.tree)) l.lo l.leaf.0.now l.certain;
 }
 
 abbrev pub decreases-loop-next : goal.decreases-loop-next

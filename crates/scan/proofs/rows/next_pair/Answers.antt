@@ -1,6 +1,6 @@
 use Rattle.std.proofs.Common.{[]}
-use Rattle.delta_chain.specs.Late.{seen}
-use Rattle.scan.proofs.LateLemmas.{late_from}
+use Rattle.delta_chain.specs.Lazy.{seen}
+use Rattle.scan.proofs.LazyLemmas.{late_from}
 use Rattle.scan.proofs.RowLemmas.{next_leaf_left}
 use Rattle.scan.proofs.rows.next_pair.Goals as goal
 

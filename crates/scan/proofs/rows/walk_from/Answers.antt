@@ -1,4 +1,4 @@
-use Rattle.scan.proofs.LateLemmas.{late_from}
+use Rattle.scan.proofs.LazyLemmas.{late_from}
 use Rattle.scan.proofs.RowLemmas.{root_is_there, pairs_at_start}
 use Rattle.scan.proofs.rows.walk_from.Goals as goal
 

@@ -1,5 +1,5 @@
 use Rattle.std.proofs.Common.{◌≡◌, take}
-use Rattle.scan.specs.Taken.{all_lower}
+use Rattle.scan.specs.Deletions.{all_lower}
 use Rattle.scan.proofs.taken.lower_bounds.Given as goal
 
 -- the keys are those of the commands so far

@@ -1,5 +1,5 @@
 use Rattle.std.proofs.Common.{◌≡◌, take}
-use Rattle.scan.specs.Taken.{all_upper}
+use Rattle.scan.specs.Deletions.{all_upper}
 use Rattle.scan.proofs.taken.upper_bounds.Given as goal
 
 -- the keys are those of the commands so far

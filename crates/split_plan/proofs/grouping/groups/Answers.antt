@@ -1,5 +1,5 @@
 use Rattle.std.proofs.Common.{◌≡◌, ◌<◌, ◌≤◌, ◌+◌, true, false, length, drop, arith}
-use Rattle.page_runs.specs.Worked.{is_thin_class}
+use Rattle.page_runs.specs.Updated.{is_thin_class}
 use Rattle.split_plan.specs.Groups.{groups}
 use Rattle.split_plan.proofs.GroupSizes.{sizes_are_found, more_come}
 use Rattle.split_plan.proofs.grouping.groups.Goals as goal

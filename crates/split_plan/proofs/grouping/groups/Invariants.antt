@@ -1,5 +1,5 @@
 use Rattle.std.proofs.Common.{◌≡◌, ◌<◌, ◌≤◌, ◌++◌, true, map, length, drop}
-use Rattle.page_runs.specs.Worked.{is_thin_class}
+use Rattle.page_runs.specs.Updated.{is_thin_class}
 use Rattle.split_plan.specs.Groups.{groups}
 use Rattle.split_plan.proofs.GroupSizes.{sizes_from}
 use Rattle.split_plan.proofs.grouping.groups.Given as goal

@@ -1,7 +1,7 @@
 use Rattle.std.proofs.Common.{length, sym, ap, ◌∙◌}
-use Rattle.delta_chain.specs.Late.{seen}
+use Rattle.delta_chain.specs.Lazy.{seen}
 use Rattle.delta_chain.specs.Layers.{entries_of}
-use Rattle.delta_chain.proofs.LateLemmas.{entries-seen}
+use Rattle.delta_chain.proofs.LazyLemmas.{entries-seen}
 use Rattle.verify.proofs.PageLemmas.{sound_leaf}
 use Rattle.verify.proofs.look.look_at_leaf.Goals as goal
 

@@ -31,7 +31,7 @@ returns-then-self g c =
       unwritten = λ fine. absurd (not_both old.has_failed bad fine);
       counted = tt;
       bytes = λ _. tt;
-      settled = λ _. tt;
+      is_synced = λ _. tt;
       crash = λ fine. absurd (not_both old.has_failed bad fine);
       sound = (sound, sound);
     }
@@ -56,8 +56,8 @@ returns-in_err-admit_crew g c =
       unwritten = λ _ _. inl (same_self (g.D.Disk.view old.disk));
       counted = tt;
       bytes = λ _. tt;
-      settled = λ _. tt;
-      crash = λ fine settled. leaves_itself (g.D.Disk.view old.disk) _ (g.met.D.Disk.lawful old.disk settled.honest) settled (inl refl);
+      is_synced = λ _. tt;
+      crash = λ fine is_synced. leaves_itself (g.D.Disk.view old.disk) _ (g.met.D.Disk.lawful old.disk is_synced.honest) is_synced (inl refl);
       sound = (sound, sound);
     })
 
@@ -93,10 +93,10 @@ returns-in-Ok-clause-bytes g c = rw (← c.self.view_is) (λ honest.
     cleaned-now _ tree c.in-Ok.committed c.committed.inside.ends _ _ c.committed.inside.version _ c.committed.view_is (c.in-Ok.ensures.written honest (store_in tree log c.self.inside.version) refl refl))
 
 pub returns-in-Ok-clause-crash : goal.returns-in-Ok-clause-crash
-returns-in-Ok-clause-crash g c = rw (← c.self.view_is) (λ fine settled.
+returns-in-Ok-clause-crash g c = rw (← c.self.view_is) (λ fine is_synced.
     let tree = c.self.inside.tree in
     let log = c.self.inside.log in
-    c.clean.ensures.crash settled (store_in tree log c.self.inside.version) refl refl (c.self.invariant.sound.step fine settled.honest))
+    c.clean.ensures.crash is_synced (store_in tree log c.self.inside.version) refl refl (c.self.invariant.sound.step fine is_synced.honest))
 
 pub returns-in-Ok-clause-sound : goal.returns-in-Ok-clause-sound
 returns-in-Ok-clause-sound g c = (rw (← c.self.view_is) c.self.invariant.sound, (invariant_of-self g c).sound)
@@ -135,10 +135,10 @@ returns-in-Err-clause-unwritten g c = rw (← c.self.view_is) (λ fine honest.
     c.in-Err.ensures.unwritten honest (store_in tree log c.self.inside.version) refl refl)
 
 pub returns-in-Err-clause-crash : goal.returns-in-Err-clause-crash
-returns-in-Err-clause-crash g c = rw (← c.self.view_is) (λ fine settled.
+returns-in-Err-clause-crash g c = rw (← c.self.view_is) (λ fine is_synced.
     let tree = c.self.inside.tree in
     let log = c.self.inside.log in
-    c.clean.ensures.crash settled (store_in tree log c.self.inside.version) refl refl (c.self.invariant.sound.step fine settled.honest))
+    c.clean.ensures.crash is_synced (store_in tree log c.self.inside.version) refl refl (c.self.invariant.sound.step fine is_synced.honest))
 
 pub returns-in-Err-clause-sound : goal.returns-in-Err-clause-sound
 returns-in-Err-clause-sound g c = (rw (← c.self.view_is) c.self.invariant.sound, (invariant_of-self-in-Err g c).sound)

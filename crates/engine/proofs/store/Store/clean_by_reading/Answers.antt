@@ -47,9 +47,9 @@ returns-in-Ok-clause-done g c = rw (← c.self.view_is) (
     let (bytes, done) = reported st refl refl in
     let is = cleaned-now _ tree c.in-Ok.committed c.committed.inside.ends _ _ c.committed.inside.version bytes c.committed.view_is done in (
       one_done view g.D.Disk.failed s st c.self.inside.disk c.self.inside.has_failed c.self.invariant.sound (subst (λ x. x.has_failed ≡ false) (sym c.self.view_is) c.requires.fine) new c.clean_by.ensures.kept
-          (λ settled step. c.clean_by.ensures.crash settled st refl refl step) now now.head refl (file, read, bytes, is)
+          (λ is_synced step. c.clean_by.ensures.crash is_synced st refl refl step) now now.head refl (file, read, bytes, is)
           (λ honest. cleaned-now _ tree c.in-Ok.committed c.committed.inside.ends _ _ c.committed.inside.version _ c.committed.view_is (c.in-Ok.ensures.written honest st refl refl))
-          c.in-Ok.ensures.counted c.in-Ok.ensures.settled (invariant_of-self g c).sound,
+          c.in-Ok.ensures.counted c.in-Ok.ensures.is_synced (invariant_of-self g c).sound,
       read_for view s now new c.self.inside.has_failed c.clean_by.new.reading c.self.inside.version (ends_in c.in-Ok.committed) (sym (law.memory s st now file bytes is).3)
           (sym (ap ends_in c.committed.view_is)) c.in-Ok.ensures.reading,
     ))
@@ -72,7 +72,7 @@ returns-in-Err-clause-refused g c = rw (← c.self.view_is) (
     let st = store_in c.self.inside.tree c.self.inside.log c.self.inside.version in
     let (file, read, reported) = c.in-Err.ensures.read in
     one_refused g.D.Disk.view g.D.Disk.failed s st c.self.inside.disk c.self.inside.has_failed c.self.invariant.sound (subst (λ x. x.has_failed ≡ false) (sym c.self.view_is) c.requires.fine) c.clean_by.new.disk c.clean_by.ensures.kept
-    (λ settled step. c.clean_by.ensures.crash settled st refl refl step) c.is_of_disk-self-inside.result c.in-Err.fault _ c.is_of_disk-self-inside.ensures
+    (λ is_synced step. c.clean_by.ensures.crash is_synced st refl refl step) c.is_of_disk-self-inside.result c.in-Err.fault _ c.is_of_disk-self-inside.ensures
     (file, read, reported st refl refl) (λ honest. c.in-Err.ensures.unwritten honest st refl refl) c.in-Err.ensures.uncounted)
 
 -- ---- the limit stays

@@ -1,6 +1,6 @@
 use Rattle.std.proofs.Common.{rules, ◌<◌, ◌^◌}
 use Rattle.mapping.specs.TreeInMemory.{tree_of}
-use Rattle.flush_log.specs.FlushText.{flush_text}
+use Rattle.flush_log.specs.FlushText.{flush_frames}
 use Rattle.engine.proofs.CleansLemmas.{if_ok}
 use Rattle.engine.proofs.CompactedStores.{compacted_sound}
 use Rattle.engine.proofs.PendingLemmas.{some-left}
@@ -30,7 +30,7 @@ plan-requires-clause-store g c κs within =
 
 pub plan-requires-clause-some : goal.plan-requires-clause-some
 plan-requires-clause-some g c κs within =
-    some-left c.is_all_written.result (flush_text c.self.inside.version (tree_of c.in-Ok.new)) (c.is_all_written.ensures c.self.inside.version) c.if-is_all_written.false
+    some-left c.is_all_written.result (flush_frames c.self.inside.version (tree_of c.in-Ok.new)) (c.is_all_written.ensures c.self.inside.version) c.if-is_all_written.false
 
 pub returns-in-Ok-plan : goal.returns-in-Ok-plan
 returns-in-Ok-plan g c =

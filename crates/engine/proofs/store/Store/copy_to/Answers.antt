@@ -52,16 +52,16 @@ returns-in-Ok-clause-bytes g c honest =
 -- ---- crashes
 
 pub returns-in-Err-clause-crash : goal.returns-in-Err-clause-crash
-returns-in-Err-clause-crash g c settled =
+returns-in-Err-clause-crash g c is_synced =
     let old = g.E.Disk.view c.args.disk in
-    none_leaves old (IsLeftCopying c.args.settings (contents c.args.self.now.store.tree) old.seen) (g.met.E.Disk.lawful c.args.disk settled.honest) settled (inl refl)
+    none_leaves old (IsLeftCopying c.args.settings (contents c.args.self.now.store.tree) old.seen) (g.met.E.Disk.lawful c.args.disk is_synced.honest) is_synced (inl refl)
 
 pub returns-in-Err-create_hidden-clause-crash : goal.returns-in-Err-create_hidden-clause-crash
-returns-in-Err-create_hidden-clause-crash g c settled =
-    begun_leaves (g.E.Disk.view c.args.disk) (g.E.Disk.view c.in-Err-create_hidden.refused.1) c.args.settings (contents c.args.self.now.store.tree) (c.in-Err-create_hidden.ensures.crash settled)
+returns-in-Err-create_hidden-clause-crash g c is_synced =
+    begun_leaves (g.E.Disk.view c.args.disk) (g.E.Disk.view c.in-Err-create_hidden.refused.1) c.args.settings (contents c.args.self.now.store.tree) (c.in-Err-create_hidden.ensures.crash is_synced)
 
 pub returns-in-Ok-clause-crash : goal.returns-in-Ok-clause-crash
-returns-in-Ok-clause-crash g c settled =
+returns-in-Ok-clause-crash g c is_synced =
     let made = c.in-Ok.ensures in
     begun_copying g.E.Disk.view c.fill_hidden.result c.args.disk c.in-Ok.fresh.disk.disk c.in-Ok.fresh.settings c.args.settings (contents c.args.self.now.store.tree) made.made.0
-    (made.crash settled) (c.fill_hidden.ensures.crash (made.bytes settled.honest).1)
+    (made.crash is_synced) (c.fill_hidden.ensures.crash (made.bytes is_synced.honest).1)

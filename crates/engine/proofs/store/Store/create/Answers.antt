@@ -35,14 +35,14 @@ returns-in-Ok-clause-bytes g c honest =
     c.args.settings made.0 c.reveal_store.ensures.same (c.reveal_store.ensures.bytes made.1.honest)
 
 pub returns-in-Ok-clause-crash : goal.returns-in-Ok-clause-crash
-returns-in-Ok-clause-crash g c settled =
-    let made = c.in-Ok.ensures.bytes settled.honest in
+returns-in-Ok-clause-crash g c is_synced =
+    let made = c.in-Ok.ensures.bytes is_synced.honest in
     revealed_leaves g.D.Disk.view g.D.Disk.failed c.in-Ok.hidden.settings c.in-Ok.hidden.store c.in-Ok.hidden.has_failed c.args.disk c.in-Ok.hidden.disk.disk c.reveal_store.result
-    c.args.settings made.0 (c.in-Ok.ensures.crash settled) (c.reveal_store.ensures.crash made.1)
+    c.args.settings made.0 (c.in-Ok.ensures.crash is_synced) (c.reveal_store.ensures.crash made.1)
 
 pub returns-in-Err-clause-refused : goal.returns-in-Err-clause-refused
 returns-in-Err-clause-refused g c = c.in-Err.ensures.refused
 
 pub returns-in-Err-clause-crash : goal.returns-in-Err-clause-crash
-returns-in-Err-clause-crash g c settled =
-    hiding_leaves (g.D.Disk.view c.args.disk) (g.D.Disk.view c.in-Err.refused.1) c.args.settings (c.in-Err.ensures.crash settled)
+returns-in-Err-clause-crash g c is_synced =
+    hiding_leaves (g.D.Disk.view c.args.disk) (g.D.Disk.view c.in-Err.refused.1) c.args.settings (c.in-Err.ensures.crash is_synced)

@@ -1,7 +1,7 @@
 use Rattle.std.proofs.Common.{inl, inr, sym, subst, ◌∙◌}
 use Rattle.std.proofs.lemmas.Result.{err_from_is_err_and}
 use Rattle.mapping.specs.Levels.{contents}
-use Rattle.flush_log.specs.Disk.{IsSettled, LeavesOnly}
+use Rattle.flush_log.specs.Disk.{IsSynced, LeavesOnly}
 use Rattle.engine.specs.Copies.{HoldsSomeStore}
 use Rattle.engine.proofs.CopyDone.{unfilled_leaves, refused_leaves, flush_leaves, fill_rest, fill_refused, fill_same, fill_counted, fill_contents, fill_bytes, kept_by}
 use Rattle.engine.proofs.store.Store.fill.Goals as goal
@@ -57,10 +57,10 @@ returns-clause-counted g c =
     fill_counted g.E.Disk.view g.E.Disk.failed c.args.copy.now c.put_all.new.copy c.flush.new.self (contents c.args.self.now.store.tree) c.put_all.ensures.rest c.in_ok-flush.ensures.counted c.requires.fine
 
 pub returns-clause-bytes : goal.returns-clause-bytes
-returns-clause-bytes g c settled =
+returns-clause-bytes g c is_synced =
     fill_bytes g.E.Disk.view g.E.Disk.failed c.args.copy.now c.put_all.new.copy c.flush.new.self (contents c.args.self.now.store.tree) c.put_all.ensures.rest
     c.requires.fine c.flush.ensures.sound.0 c.in_ok-flush.ensures.frames c.what_was_flushed_is_what_is_read.ensures.read (λ honest. c.in_ok-flush.ensures.bytes honest)
-    (λ fine none. (c.flush.ensures.nothing fine c.requires.crew none).1) (λ honest some. c.in_ok-flush.ensures.settled honest some) settled
+    (λ fine none. (c.flush.ensures.nothing fine c.requires.crew none).1) (λ honest some. c.in_ok-flush.ensures.is_synced honest some) is_synced
 
 pub returns-clause-sound : goal.returns-clause-sound
 returns-clause-sound g c = c.flush.ensures.sound.1
@@ -68,28 +68,28 @@ returns-clause-sound g c = c.flush.ensures.sound.1
 -- ---- crashes
 
 pub returns-in_err-put_all-clause-crash : goal.returns-in_err-put_all-clause-crash
-returns-in_err-put_all-clause-crash g c settled =
-    unfilled_leaves g.E.Disk.view c.args.copy.now c.put_all.new.copy.disk (g.met.E.Disk.lawful c.args.copy.now.disk settled.honest) c.requires.sound c.requires.fine settled c.put_all.ensures.rest.1
+returns-in_err-put_all-clause-crash g c is_synced =
+    unfilled_leaves g.E.Disk.view c.args.copy.now c.put_all.new.copy.disk (g.met.E.Disk.lawful c.args.copy.now.disk is_synced.honest) c.requires.sound c.requires.fine is_synced c.put_all.ensures.rest.1
 
 pub returns-in_err-flush-clause-crash : goal.returns-in_err-flush-clause-crash
-returns-in_err-flush-clause-crash g c settled =
+returns-in_err-flush-clause-crash g c is_synced =
     let view = g.E.Disk.view in
     let mid = c.put_all.new.copy in
     let now = c.flush.new.self in
     let rest = c.put_all.ensures.rest in
-    let there = subst (λ d. IsSettled (view d)) (sym rest.1) settled in
+    let there = subst (λ d. IsSynced (view d)) (sym rest.1) is_synced in
     let fine = rest.2 ∙ c.requires.fine in
     subst (λ d. LeavesOnly (view d) (view now.disk) HoldsSomeStore) rest.1
     (refused_leaves view mid now c.flush.ensures.sound.0 fine there (c.flush.ensures.crash fine there) _ _ _ (g.met.E.Disk.lawful mid.disk there.honest)
     c.in_err-flush.ensures.frames_under_way c.what_was_flushed_is_what_is_read.ensures.read c.in_err-flush.ensures.unchanged (c.in_err-flush.ensures.refused fine c.requires.crew))
 
 pub returns-clause-crash : goal.returns-clause-crash
-returns-clause-crash g c settled =
+returns-clause-crash g c is_synced =
     let view = g.E.Disk.view in
     let mid = c.put_all.new.copy in
     let now = c.flush.new.self in
     let rest = c.put_all.ensures.rest in
-    let there = subst (λ d. IsSettled (view d)) (sym rest.1) settled in
+    let there = subst (λ d. IsSynced (view d)) (sym rest.1) is_synced in
     let fine = rest.2 ∙ c.requires.fine in
     subst (λ d. LeavesOnly (view d) (view now.disk) HoldsSomeStore) rest.1
     (flush_leaves view mid now c.flush.ensures.sound.0 fine there (c.flush.ensures.crash fine there) c.in_ok-flush.ensures.frames c.what_was_flushed_is_what_is_read.ensures.read)

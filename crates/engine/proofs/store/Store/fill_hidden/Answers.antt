@@ -24,8 +24,8 @@ returns-in-Ok-clause-kept g c =
     c.in-Ok.ensures.kept.0 c.in-Ok.ensures.kept.1 c.reveal_store.ensures.kept
 
 pub returns-in-Ok-clause-bytes : goal.returns-in-Ok-clause-bytes
-returns-in-Ok-clause-bytes g c settled =
-    let there = c.in-Ok.ensures.bytes (settled_exchanged (g.E.Disk.view c.args.fresh.disk.disk) settled) in
+returns-in-Ok-clause-bytes g c is_synced =
+    let there = c.in-Ok.ensures.bytes (settled_exchanged (g.E.Disk.view c.args.fresh.disk.disk) is_synced) in
     shown_bytes g.E.Disk.view g.E.Disk.failed c.args.fresh.settings (contents c.args.self.now.store.tree) c.in-Ok.copy.settings c.in-Ok.copy.store c.in-Ok.copy.has_failed c.args.fresh.disk.disk c.in-Ok.copy.disk.disk c.reveal_store.result
     c.in-Ok.ensures.made.0 (subst (λ s. store_of_disk (exchanged (g.E.Disk.view c.in-Ok.copy.disk.disk).seen) ≡ Ok (s, c.in-Ok.copy.store)) (sym c.in-Ok.ensures.made.0) there.0) c.reveal_store.ensures.same (c.reveal_store.ensures.bytes there.1.honest)
 
@@ -40,8 +40,8 @@ returns-in-Ok-clause-back g c =
     c.in-Ok.ensures.kept.0 c.reveal_store.ensures.refused
 
 pub returns-in-Ok-clause-crash : goal.returns-in-Ok-clause-crash
-returns-in-Ok-clause-crash g c settled =
-    let hidden = settled_exchanged (g.E.Disk.view c.args.fresh.disk.disk) settled in
+returns-in-Ok-clause-crash g c is_synced =
+    let hidden = settled_exchanged (g.E.Disk.view c.args.fresh.disk.disk) is_synced in
     let there = c.in-Ok.ensures.bytes hidden in
     shown_leaves g.E.Disk.view g.E.Disk.failed c.args.fresh.settings (contents c.args.self.now.store.tree) c.in-Ok.copy.settings c.in-Ok.copy.store c.in-Ok.copy.has_failed c.args.fresh.disk.disk c.in-Ok.copy.disk.disk c.reveal_store.result
     c.in-Ok.ensures.made.0 c.in-Ok.ensures.contents (subst (λ s. store_of_disk (exchanged (g.E.Disk.view c.in-Ok.copy.disk.disk).seen) ≡ Ok (s, c.in-Ok.copy.store)) (sym c.in-Ok.ensures.made.0) there.0)
@@ -54,5 +54,5 @@ pub returns-in-Err-clause-back : goal.returns-in-Err-clause-back
 returns-in-Err-clause-back g c = (kept_below (g.E.Disk.view c.args.fresh.disk.disk) _ c.in-Err.ensures.back.0, λ other. ap (λ (h : Hidden g.row.E.Denot). h.disk) (c.in-Err.ensures.back.1 other))
 
 pub returns-in-Err-clause-crash : goal.returns-in-Err-clause-crash
-returns-in-Err-clause-crash g c settled =
-    filled_leaves (g.E.Disk.view c.args.fresh.disk.disk) _ c.args.fresh.settings (contents c.args.self.now.store.tree) (c.in-Err.ensures.crash (settled_exchanged (g.E.Disk.view c.args.fresh.disk.disk) settled))
+returns-in-Err-clause-crash g c is_synced =
+    filled_leaves (g.E.Disk.view c.args.fresh.disk.disk) _ c.args.fresh.settings (contents c.args.self.now.store.tree) (c.in-Err.ensures.crash (settled_exchanged (g.E.Disk.view c.args.fresh.disk.disk) is_synced))

@@ -16,6 +16,6 @@ returns-in-Err-clause-back g c =
     subst (λ d. Kept (view c.args.fresh.disk) (view d) × (c.in-Err.fault ≢ Device → d ≡ c.args.fresh.disk)) (sym c.close.ensures) (c.fill.ensures.rest.1, c.in-Err.ensures.unchanged)
 
 pub returns-in-Err-clause-crash : goal.returns-in-Err-clause-crash
-returns-in-Err-clause-crash g c settled =
+returns-in-Err-clause-crash g c is_synced =
     let view = g.E.Disk.view in
-    subst (λ d. LeavesOnly (view c.args.fresh.disk) (view d) HoldsSomeStore) (sym c.close.ensures) (c.fill.ensures.crash settled)
+    subst (λ d. LeavesOnly (view c.args.fresh.disk) (view d) HoldsSomeStore) (sym c.close.ensures) (c.fill.ensures.crash is_synced)

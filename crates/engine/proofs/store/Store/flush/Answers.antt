@@ -2,8 +2,8 @@ use Rattle.std.proofs.Common.{◌≡◌, true, false, [], OnOk, IfErr, inl, refl
 use Rattle.std.proofs.lemmas.Result.{err_from_is_err_and}
 use Rattle.keys.specs.declared.fault.Fault.TheVariants.{Device}
 use Rattle.keys.specs.declared.version.Version.{Version}
-use Rattle.flush_log.specs.FlushText.{HasFrames, flush_text}
-use Rattle.flush_log.specs.declared.text.Text.TheVariants as texts
+use Rattle.flush_log.specs.FlushText.{HasFrames, flush_frames}
+use Rattle.flush_log.specs.declared.text.CommitKind.TheVariants as texts
 use Rattle.flush_log.proofs.SameLemmas.{leaves_itself}
 use Rattle.recovery.proofs.ReadBytes.{kept_self}
 use Rattle.engine.specs.Refusal.{is_crew}
@@ -30,7 +30,7 @@ returns-then-self g c =
       device = λ device. absurd (failed_no_device device);
       counted = tt;
       bytes = λ _. tt;
-      settled = λ _ _. tt;
+      is_synced = λ _ _. tt;
       crash = λ fine. absurd (not_both old.has_failed bad fine);
       frames = tt;
       frames_under_way = λ device. absurd (failed_no_device device);
@@ -56,8 +56,8 @@ returns-in_err-admit_crew g c =
       device = λ device. absurd (bad_crew_no_device device);
       counted = tt;
       bytes = λ _. tt;
-      settled = λ _ _. tt;
-      crash = λ fine settled. leaves_itself (g.D.Disk.view old.disk) _ (g.met.D.Disk.lawful old.disk settled.honest) settled (inl refl);
+      is_synced = λ _ _. tt;
+      crash = λ fine is_synced. leaves_itself (g.D.Disk.view old.disk) _ (g.met.D.Disk.lawful old.disk is_synced.honest) is_synced (inl refl);
       frames = tt;
       frames_under_way = λ device. absurd (bad_crew_no_device device);
       sound = (sound, sound);
@@ -84,8 +84,8 @@ returns-then-is_all_written g c = rw (← c.self.view_is) (
       device = tt;
       counted = (refl, refl);
       bytes = λ _. done;
-      settled = λ _ some. absurd (some none);
-      crash = λ fine settled. leaves_itself old _ (g.met.D.Disk.lawful disk settled.honest) settled (inl refl);
+      is_synced = λ _ some. absurd (some none);
+      crash = λ fine is_synced. leaves_itself old _ (g.met.D.Disk.lawful disk is_synced.honest) is_synced (inl refl);
       frames = nothing-framed s st.version st.tree none;
       frames_under_way = tt;
       sound = (c.self.invariant.sound, c.self.invariant.sound);
@@ -101,7 +101,7 @@ returns g c =
     let wrote = c.write-2.ensures in
     record {
       store = wrote.store;
-      nothing = λ _ _ none. absurd (not_both c.is_all_written.result ((c.is_all_written.ensures c.self.inside.version).1 (subst (λ x. flush_text x.store.version x.store.tree ≡ []) (sym c.self.view_is) none)) c.if-is_all_written.false);
+      nothing = λ _ _ none. absurd (not_both c.is_all_written.result ((c.is_all_written.ensures c.self.inside.version).1 (subst (λ x. flush_frames x.store.version x.store.tree ≡ []) (sym c.self.view_is) none)) c.if-is_all_written.false);
       rest = wrote.rest;
       failed = λ bad. absurd (not_both old.has_failed bad fine);
       bad_crew = λ _ bad. absurd (not_both (is_crew c.args.crew) c.in_ok-admit_crew.ensures.ok bad);
@@ -110,8 +110,8 @@ returns g c =
       device = wrote.device;
       counted = wrote.counted;
       bytes = wrote.bytes;
-      settled = λ honest _. wrote.settled honest;
-      crash = λ _ settled. wrote.crash settled;
+      is_synced = λ honest _. wrote.is_synced honest;
+      crash = λ _ is_synced. wrote.crash is_synced;
       frames = subst (λ (v : Version). OnOk c.write-2.result (HasFrames old.settings (texts.Flush v) old.store.tree)) version wrote.frames;
       frames_under_way = subst (λ (v : Version). IfErr c.write-2.result (λ fault. fault ≡ Device → HasFrames old.settings (texts.Flush v) old.store.tree)) version wrote.frames_under_way;
       sound = wrote.sound;

@@ -47,7 +47,7 @@ returns-in-Ok-clause-flushed g c =
     let (rows, done, sum, held) = c.room.invariant in
     let ok = c.in-Ok.ensures in
     flushed_on g.D.Disk.view g.D.Disk.failed g.met.D.Disk.lawful old rows c.room.self done c.step.new.self c.in-Ok._flushed
-    ok.ok ok.rest ok.counted c.requires.fine ok.bytes ok.settled ok.crash ok.sound.1 (omega (arith, sum))
+    ok.ok ok.rest ok.counted c.requires.fine ok.bytes ok.is_synced ok.crash ok.sound.1 (omega (arith, sum))
 
 pub returns-in_err-go_on-in-Err-clause-refused : goal.returns-in_err-go_on-in-Err-clause-refused
 returns-in_err-go_on-in-Err-clause-refused g c =

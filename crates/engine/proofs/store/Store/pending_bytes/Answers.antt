@@ -1,6 +1,6 @@
 use Rattle.std.proofs.Common.{◌≡◌, true, false, refl, ap, subst, ◌∙◌, arith}
 use Rattle.std.proofs.lemmas.Result.{err_from_is_err_and}
-use Rattle.flush_log.specs.FlushText.{flush_text}
+use Rattle.flush_log.specs.FlushText.{flush_frames}
 use Rattle.flush_log.specs.Slot.{Slot}
 use Rattle.engine.specs.Refusal.{is_crew}
 use Rattle.engine.specs.State.{store_in}
@@ -59,12 +59,12 @@ plan-requires-clause-store g c κs within = (c.self.inside.version, c.self.invar
 pub plan-requires-clause-some : goal.plan-requires-clause-some
 plan-requires-clause-some g c κs within =
     let st = store_in c.self.inside.tree c.self.inside.log c.self.inside.version in
-    some-left c.is_all_written.result (flush_text st.version st.tree) (c.is_all_written.ensures st.version) c.if-is_all_written.false
+    some-left c.is_all_written.result (flush_frames st.version st.tree) (c.is_all_written.ensures st.version) c.if-is_all_written.false
 
 pub returns-in_err-commit : goal.returns-in_err-commit
 returns-in_err-commit g c = rw (← c.self.view_is) (
     let st = store_in c.self.inside.tree c.self.inside.log c.self.inside.version in
-    let due = some-left c.is_all_written.result (flush_text st.version st.tree) (c.is_all_written.ensures st.version) c.if-is_all_written.false in
+    let due = some-left c.is_all_written.result (flush_frames st.version st.tree) (c.is_all_written.ensures st.version) c.if-is_all_written.false in
     let p = err_from_is_err_and c.from_residual-in_err-commit.result c.from_residual-in_err-commit.ensures.1 in
     rw (p.1, p.2) (record {
       bytes = tt;
@@ -77,7 +77,7 @@ returns-in_err-commit g c = rw (← c.self.view_is) (
 pub overflow_sub-result : goal.overflow_sub-result
 overflow_sub-result g c =
     let st = store_in c.self.inside.tree c.self.inside.log c.self.inside.version in
-    let due = some-left c.is_all_written.result (flush_text st.version st.tree) (c.is_all_written.ensures st.version) c.if-is_all_written.false in
+    let due = some-left c.is_all_written.result (flush_frames st.version st.tree) (c.is_all_written.ensures st.version) c.if-is_all_written.false in
     let up = tail-not-below c.self.inside.settings st due _ (c.in_ok-commit.ensures.plan st.version) c.self.invariant.sound.is.good in
     let same = ap (λ (t : Slot). t.tail) (c.slot.view_is ∙ c.slot-slot.ensures) in
     omega (arith, up, same)
@@ -85,7 +85,7 @@ overflow_sub-result g c =
 pub returns : goal.returns
 returns g c = rw (← c.self.view_is) (
     let st = store_in c.self.inside.tree c.self.inside.log c.self.inside.version in
-    let due = some-left c.is_all_written.result (flush_text st.version st.tree) (c.is_all_written.ensures st.version) c.if-is_all_written.false in
+    let due = some-left c.is_all_written.result (flush_frames st.version st.tree) (c.is_all_written.ensures st.version) c.if-is_all_written.false in
     let p = c.in_ok-commit.ensures.plan st.version in
     let up = tail-not-below c.self.inside.settings st due _ p c.self.invariant.sound.is.good in
     let same = ap (λ (t : Slot). t.tail) (c.slot.view_is ∙ c.slot-slot.ensures) in

@@ -6,7 +6,7 @@ use Rattle.recovery.proofs.ReadBytes.{kept_self, kept_then}
 use Rattle.engine.specs.Plays.{IsPlayed, IsPlayedOn, IsPlayFault, step_of}
 use Rattle.engine.specs.Refusal.{is_crew}
 use Rattle.engine.specs.State.{IsSound}
-use Rattle.engine.specs.Steps.{Step, StandsAfterSome, HaveWords, batching, plays}
+use Rattle.engine.specs.Steps.{Step, StandsAfterSome, AllNumbersFit, batching, plays}
 use Rattle.engine.proofs.PlayTurn.{no_turn, turn_as, stays, still_said, still_exact, goes_on, crash_on, words_on, left_after_it, refused_after, one_taken, one_after, none_taken, none_left, device_or_not, reached_device, reached_other}
 use Rattle.engine.proofs.StepDone.{fine_where, able_where}
 use Rattle.engine.proofs.store.Store.play.Goals as goal
@@ -38,8 +38,8 @@ returns-in-Err-clause-bad_crew g c _ _ = (tt, (refl, inr refl))
 pub returns-in-Err-clause-counted : goal.returns-in-Err-clause-counted
 returns-in-Err-clause-counted g c _ = (refl, refl)
 
-pub returns-in-Err-clause-settled : goal.returns-in-Err-clause-settled
-returns-in-Err-clause-settled g c settled _ = settled
+pub returns-in-Err-clause-is_synced : goal.returns-in-Err-clause-is_synced
+returns-in-Err-clause-is_synced g c is_synced _ = is_synced
 
 pub returns-in-Err-clause-sound : goal.returns-in-Err-clause-sound
 returns-in-Err-clause-sound g c =
@@ -96,12 +96,12 @@ returns-in-Err-step-clause-bytes g c honest other =
     (λ h. c.in-Err-step.ensures.same h other) c.step.ensures.sound.1).bytes honest in
     left ∙ ap (λ n. (plays (batching s) s old.store (view old.disk).seen (map step_of (take n c.args.steps.now))).bytes) (sym n_is)
 
-pub returns-in-Err-step-clause-settled : goal.returns-in-Err-step-clause-settled
-returns-in-Err-step-clause-settled g c settled other =
+pub returns-in-Err-step-clause-is_synced : goal.returns-in-Err-step-clause-is_synced
+returns-in-Err-step-clause-is_synced g c is_synced other =
     let view = g.D.Disk.view in
     let at = c.loop-step in
     (stays view g.D.Disk.failed g.met.D.Disk.lawful c.args.self.now _ _ at.self at.invariant.turn c.step.new.self c.step.ensures.rest c.in-Err-step.ensures.unchanged (c.in-Err-step.ensures.fine other)
-    (λ h. c.in-Err-step.ensures.same h other) c.step.ensures.sound.1).settled settled
+    (λ h. c.in-Err-step.ensures.same h other) c.step.ensures.sound.1).is_synced is_synced
 
 pub returns-in-Err-step-clause-rest : goal.returns-in-Err-step-clause-rest
 returns-in-Err-step-clause-rest g c =
@@ -126,7 +126,7 @@ returns-in-Err-step-clause-words g c honest =
     let file = (g.D.Disk.view old.disk).seen in
     let at = c.loop-step in
     let n_is = c.len.ensures ∙ at.invariant.len in
-    subst (λ n. HaveWords (batching old.settings) old.settings old.store file (map step_of (take n c.args.steps.now))) (sym n_is) (at.invariant.turn.words honest)
+    subst (λ n. AllNumbersFit (batching old.settings) old.settings old.store file (map step_of (take n c.args.steps.now))) (sym n_is) (at.invariant.turn.words honest)
 
 pub returns-in-Err-step-clause-words_reached : goal.returns-in-Err-step-clause-words_reached
 returns-in-Err-step-clause-words_reached g c honest =
@@ -135,7 +135,7 @@ returns-in-Err-step-clause-words_reached g c honest =
     let steps = c.args.steps.now in
     let at = c.loop-step in
     let n_is = c.len.ensures ∙ at.invariant.len in
-    let Have : List (Step Global) → Type 0 = λ ys. HaveWords (batching old.settings) old.settings old.store (view old.disk).seen ys in
+    let Have : List (Step Global) → Type 0 = λ ys. AllNumbersFit (batching old.settings) old.settings old.store (view old.disk).seen ys in
     ⊎_elim
     (λ device. subst Have (sym (reached_device steps c.in-Err-step.fault c.len.result at.step-index c.step-item.result device n_is c.loop-step-test.true c.step-item.is))
     (words_on view g.D.Disk.failed g.met.D.Disk.lawful old _ _ at.self at.invariant.turn c.step.new.self (step_of c.step-item.result) honest (c.in-Err-step.ensures.device device).1))
@@ -154,7 +154,7 @@ returns-in-Err-step-clause-headline g c fine honest on_disk stands =
     let at = c.loop-step in
     let sound : IsSound g.D.Disk.view old = rw (← c.self.view_is) c.self.invariant.sound in
     let n_is = c.len.ensures ∙ at.invariant.len in
-    let words = subst (λ n. HaveWords (batching old.settings) old.settings old.store file (map step_of (take n c.args.steps.now))) (sym n_is) (at.invariant.turn.words honest) in
+    let words = subst (λ n. AllNumbersFit (batching old.settings) old.settings old.store file (map step_of (take n c.args.steps.now))) (sym n_is) (at.invariant.turn.words honest) in
     c.steps_answer_as_a_map_and_are_read_back.ensures old.settings old.store on_disk file _ (record { is = sound.is; step = sound.step fine honest }) stands words
 
 pub returns-in-Err-step-clause-still_failed : goal.returns-in-Err-step-clause-still_failed
@@ -188,7 +188,7 @@ returns-in-Err-step-clause-refused g c fine able =
     )
 
 pub returns-in-Err-step-clause-crash : goal.returns-in-Err-step-clause-crash
-returns-in-Err-step-clause-crash g c fine settled =
+returns-in-Err-step-clause-crash g c fine is_synced =
     let old = c.args.self.now in
     let view = g.D.Disk.view in
     let steps = c.args.steps.now in
@@ -197,14 +197,14 @@ returns-in-Err-step-clause-crash g c fine settled =
     let Stands : List (Step Global) → Type 0 = λ ys. LeavesOnly (view old.disk) (view c.step.new.self.disk) (StandsAfterSome (batching old.settings) old.settings old.store (view old.disk).seen ys) in
     ⊎_elim
     (λ device. subst Stands (sym (reached_device steps c.in-Err-step.fault c.len.result at.step-index c.step-item.result device n_is c.loop-step-test.true c.step-item.is))
-    (crash_on view g.D.Disk.failed g.met.D.Disk.lawful old _ _ at.self at.invariant.turn c.step.new.self (step_of c.step-item.result) c.step.ensures.crash fine settled))
+    (crash_on view g.D.Disk.failed g.met.D.Disk.lawful old _ _ at.self at.invariant.turn c.step.new.self (step_of c.step-item.result) c.step.ensures.crash fine is_synced))
     (λ other. subst Stands (sym (reached_other steps c.in-Err-step.fault c.len.result at.step-index (other.1 c.len.result) n_is))
     ((stays view g.D.Disk.failed g.met.D.Disk.lawful old _ _ at.self at.invariant.turn c.step.new.self c.step.ensures.rest c.in-Err-step.ensures.unchanged (c.in-Err-step.ensures.fine other.0)
-    (λ honest. c.in-Err-step.ensures.same honest other.0) c.step.ensures.sound.1).crash fine settled))
+    (λ honest. c.in-Err-step.ensures.same honest other.0) c.step.ensures.sound.1).crash fine is_synced))
     (device_or_not c.in-Err-step.fault)
 
 pub returns-in-Err-step-clause-following : goal.returns-in-Err-step-clause-following
-returns-in-Err-step-clause-following g c fine settled device d left =
+returns-in-Err-step-clause-following g c fine is_synced device d left =
     let old = c.args.self.now in
     let view = g.D.Disk.view in
     let file = (view old.disk).seen in
@@ -216,7 +216,7 @@ returns-in-Err-step-clause-following g c fine settled device d left =
     ⊎_elim
     (λ before. inl (before ∙ ap (λ n. store_of_disk (plays (batching s) s old.store file (map step_of (take n steps))).bytes) (sym n_is)))
     (λ after. inr (after ∙ ap (λ ys. store_of_disk (plays (batching s) s old.store file ys).bytes) (sym taken)))
-    (left_after_it view g.D.Disk.failed g.met.D.Disk.lawful old _ _ at.self at.invariant.turn c.step.new.self (step_of c.step-item.result) c.step.ensures.rest.1 c.step.ensures.crash fine settled d left)
+    (left_after_it view g.D.Disk.failed g.met.D.Disk.lawful old _ _ at.self at.invariant.turn c.step.new.self (step_of c.step-item.result) c.step.ensures.rest.1 c.step.ensures.crash fine is_synced d left)
 
 pub loop-step-preserved : goal.loop-step-preserved
 loop-step-preserved g c =
@@ -227,7 +227,7 @@ loop-step-preserved g c =
     let ok = c.in-Ok-step.ensures in
     let fine = fine_where at.self.has_failed c.step.result c.in-Ok-step.answer c.in-Ok-step.is c.step.ensures.failed in
     let next = goes_on view g.D.Disk.failed g.met.D.Disk.lawful old _ _ at.self at.invariant.turn c.step.new.self (step_of c.step-item.result) c.in-Ok-step.answer
-    ok.ok c.step.ensures.rest ok.counted fine ok.bytes ok.settled c.step.ensures.crash c.step.ensures.sound.1 in
+    ok.ok c.step.ensures.rest ok.counted fine ok.bytes ok.is_synced c.step.ensures.crash c.step.ensures.sound.1 in
     record {
       len = c.push_reserved.ensures.len ∙ ap (λ n. n + 1) at.invariant.len;
       room = c.push_reserved.ensures.capacity ∙ at.invariant.room;
@@ -250,8 +250,8 @@ returns-clause-rest g c = (c.loop-step.invariant.turn.settings, c.loop-step.inva
 pub returns-clause-counted : goal.returns-clause-counted
 returns-clause-counted g c = (c.loop-step.invariant.turn.has_failed, c.loop-step.invariant.turn.failed)
 
-pub returns-clause-settled : goal.returns-clause-settled
-returns-clause-settled g c settled = c.loop-step.invariant.turn.settled settled
+pub returns-clause-is_synced : goal.returns-clause-is_synced
+returns-clause-is_synced g c is_synced = c.loop-step.invariant.turn.is_synced is_synced
 
 pub returns-clause-still : goal.returns-clause-still
 returns-clause-still g c bad = c.loop-step.invariant.still bad
@@ -273,20 +273,20 @@ returns-clause-bytes g c honest =
     subst (λ xs. (view at.self.disk).seen ≡ (plays (batching s) s old.store (view old.disk).seen (map step_of xs)).bytes) all (at.invariant.turn.bytes honest)
 
 pub returns-clause-crash : goal.returns-clause-crash
-returns-clause-crash g c fine settled =
+returns-clause-crash g c fine is_synced =
     let old = c.args.self.now in
     let view = g.D.Disk.view in
     let s = old.settings in
     let at = c.loop-step in
     let all = take_all at.step-index c.args.steps.now (omega (arith, c.loop-step-test.false)) in
-    subst (λ xs. LeavesOnly (view old.disk) (view at.self.disk) (StandsAfterSome (batching s) s old.store (view old.disk).seen (map step_of xs))) all (at.invariant.turn.crash fine settled)
+    subst (λ xs. LeavesOnly (view old.disk) (view at.self.disk) (StandsAfterSome (batching s) s old.store (view old.disk).seen (map step_of xs))) all (at.invariant.turn.crash fine is_synced)
 
 pub returns-clause-words : goal.returns-clause-words
 returns-clause-words g c honest =
     let old = c.args.self.now in
     let at = c.loop-step in
     let all = take_all at.step-index c.args.steps.now (omega (arith, c.loop-step-test.false)) in
-    subst (λ xs. HaveWords (batching old.settings) old.settings old.store (g.D.Disk.view old.disk).seen (map step_of xs)) all (at.invariant.turn.words honest)
+    subst (λ xs. AllNumbersFit (batching old.settings) old.settings old.store (g.D.Disk.view old.disk).seen (map step_of xs)) all (at.invariant.turn.words honest)
 
 pub returns-clause-words_reached : goal.returns-clause-words_reached
 returns-clause-words_reached g c honest = returns-clause-words g c honest
@@ -304,7 +304,7 @@ returns-clause-headline g c fine honest on_disk stands =
     let steps = c.args.steps.now in
     let sound : IsSound g.D.Disk.view old = rw (← c.self.view_is) c.self.invariant.sound in
     let all = take_all at.step-index steps (omega (arith, c.loop-step-test.false)) in
-    let words = subst (λ xs. HaveWords (batching old.settings) old.settings old.store file (map step_of xs)) all (at.invariant.turn.words honest) in
+    let words = subst (λ xs. AllNumbersFit (batching old.settings) old.settings old.store file (map step_of xs)) all (at.invariant.turn.words honest) in
     c.steps_answer_as_a_map_and_are_read_back.ensures old.settings old.store on_disk file _ (record { is = sound.is; step = sound.step fine honest }) stands words
 
 pub returns-clause-sound : goal.returns-clause-sound

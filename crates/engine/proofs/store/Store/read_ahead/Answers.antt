@@ -52,7 +52,7 @@ returns-in-Err-clause-refused g c = rw (← c.self.view_is) (
     let st = store_in c.self.inside.tree c.self.inside.log c.self.inside.version in
     let (file, read, reported) = c.in-Err.ensures.err in
     one_refused view g.D.Disk.failed s st disk c.self.inside.has_failed c.self.invariant.sound (subst (λ x. x.has_failed ≡ false) (sym c.self.view_is) c.requires.fine) c.read_for_cleans.new.disk c.read_for_cleans.ensures.kept
-    (λ settled step. leaves_the_same (view disk) (view c.read_for_cleans.new.disk) _ (g.met.D.Disk.lawful disk settled.honest) (c.read_for_cleans.ensures.same settled.honest) settled (inl refl))
+    (λ is_synced step. leaves_the_same (view disk) (view c.read_for_cleans.new.disk) _ (g.met.D.Disk.lawful disk is_synced.honest) (c.read_for_cleans.ensures.same is_synced.honest) is_synced (inl refl))
     c.is_of_disk-self-inside.result c.in-Err.fault Unit c.is_of_disk-self-inside.ensures
     (file, read, reported st refl refl) (λ honest. inl (c.read_for_cleans.ensures.same honest)) c.in-Err.ensures.uncounted)
 

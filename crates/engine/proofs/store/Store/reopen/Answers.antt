@@ -1,7 +1,7 @@
 use Rattle.std.proofs.Common.{◌≡◌, subst, IsTrue}
 use Rattle.std.specs.Prelude.{IfOk}
 use Rattle.keys.specs.Bytes.{Bytes}
-use Rattle.flush_log.specs.Disk.{IsSettled, Leaves}
+use Rattle.flush_log.specs.Disk.{IsSynced, Leaves}
 use Rattle.recovery.specs.Recovered.{IsReadOf}
 use Rattle.engine.specs.Opened.{IsOpened, disk_left}
 use Rattle.engine.proofs.store.Store.reopen.Goals as goal
@@ -18,10 +18,10 @@ returns-clause-honest g c able =
     let failed = g.D.Disk.failed in
     subst (λ d. IsTrue (view d).is_honest → IsOpened failed (view d).seen (failed d) c.open.result) c.close.ensures (c.open.ensures.honest able)
 
-pub returns-clause-settled : goal.returns-clause-settled
-returns-clause-settled g c =
+pub returns-clause-is_synced : goal.returns-clause-is_synced
+returns-clause-is_synced g c =
     let view = g.D.Disk.view in
-    subst (λ d. IsTrue (view d).is_honest → IfOk c.open.result (λ opened. IsSettled (view opened.disk))) c.close.ensures c.open.ensures.settled
+    subst (λ d. IsTrue (view d).is_honest → IfOk c.open.result (λ opened. IsSynced (view opened.disk))) c.close.ensures c.open.ensures.is_synced
 
 pub returns-clause-crash : goal.returns-clause-crash
 returns-clause-crash g c =

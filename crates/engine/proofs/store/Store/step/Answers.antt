@@ -1,8 +1,8 @@
 use Rattle.std.proofs.Common.{inl, refl, ap, sym, subst, ⊎_elim}
 use Rattle.std.proofs.lemmas.Result.{err_from_is_err_and}
-use Rattle.flush_log.specs.Disk.{IsSettled, Kept, LeavesOnly, Same}
-use Rattle.flush_log.specs.FlushText.{flush_text}
-use Rattle.flush_log.specs.declared.text.Text.TheVariants as texts
+use Rattle.flush_log.specs.Disk.{IsSynced, Kept, LeavesOnly, Same}
+use Rattle.flush_log.specs.FlushText.{flush_frames}
+use Rattle.flush_log.specs.declared.text.CommitKind.TheVariants as texts
 use Rattle.flush_log.proofs.SameLemmas.{leaves_itself}
 use Rattle.flush_log.proofs.ViewLemmas.{weaker}
 use Rattle.recovery.proofs.ReadBytes.{kept_self, same_self}
@@ -39,8 +39,8 @@ returns-in_err-batch-in-Batch g c =
       device = λ device. absurd (batch_never old.settings old.store c.in-Batch.commands.now c.batch.result _ was old.has_failed (is_crew c.args.crew) call.failed call.bad_crew call.refused device);
       counted = tt;
       bytes = λ _. tt;
-      settled = λ _. tt;
-      crash = λ _ settled. subst (λ d. LeavesOnly (view old.disk) (view d) P) (sym call.rest.1) (leaves_itself (view old.disk) P (g.met.D.Disk.lawful old.disk settled.honest) settled (inl refl));
+      is_synced = λ _. tt;
+      crash = λ _ is_synced. subst (λ d. LeavesOnly (view old.disk) (view d) P) (sym call.rest.1) (leaves_itself (view old.disk) P (g.met.D.Disk.lawful old.disk is_synced.honest) is_synced (inl refl));
       sound = call.sound;
     })
 
@@ -77,8 +77,8 @@ returns-in_ok-batch-in-Batch g c =
       device = tt;
       counted = (call.rest.2, ap (λ d. g.D.Disk.failed d) call.rest.1);
       bytes = λ _. rw call.rest.1 done;
-      settled = λ settled. subst (λ d. IsSettled (view d)) (sym call.rest.1) settled;
-      crash = λ _ settled. subst (λ d. LeavesOnly (view old.disk) (view d) P) (sym call.rest.1) (leaves_itself (view old.disk) P (g.met.D.Disk.lawful old.disk settled.honest) settled (inl refl));
+      is_synced = λ is_synced. subst (λ d. IsSynced (view d)) (sym call.rest.1) is_synced;
+      crash = λ _ is_synced. subst (λ d. LeavesOnly (view old.disk) (view d) P) (sym call.rest.1) (leaves_itself (view old.disk) P (g.met.D.Disk.lawful old.disk is_synced.honest) is_synced (inl refl));
       sound = call.sound;
     }
 
@@ -107,8 +107,8 @@ returns-in_err-flush-in-Flush g c =
       device = λ device. ((left.device device).1, words_of old.settings old.store Flush (step_of c.args.step) same (left.frames_under_way device));
       counted = tt;
       bytes = λ _. tt;
-      settled = λ _. tt;
-      crash = λ fine settled. weaker (view old.disk) (view c.flush.new.self.disk) _ _ (λ d after. writing_left old.settings old.store file (step_of c.args.step) (texts.Flush old.store.version) same d after) (call.crash fine settled);
+      is_synced = λ _. tt;
+      crash = λ fine is_synced. weaker (view old.disk) (view c.flush.new.self.disk) _ _ (λ d after. writing_left old.settings old.store file (step_of c.args.step) (texts.Flush old.store.version) same d after) (call.crash fine is_synced);
       sound = call.sound;
     })
 
@@ -144,14 +144,14 @@ returns-in_ok-flush-in-Flush g c =
       device = tt;
       counted = ok.counted;
       bytes = λ honest. writing_done old.settings old.store now.store file (step_of c.args.step) (texts.Flush old.store.version) _ _ same n_is (ok.bytes honest);
-      settled = λ settled.
+      is_synced = λ is_synced.
           (let fine = fine_where old.has_failed c.flush.result _ was call.failed in
           let able = able_where (is_crew c.args.crew) c.flush.result _ was (call.bad_crew fine) in
           ⊎_elim
-          (λ none. subst (λ d. IsSettled (view d)) (sym (ap (λ x. x.disk) (call.nothing fine able none).1)) settled)
-          (λ some. ok.settled settled.honest some)
-          (empty_or_not (flush_text old.store.version old.store.tree)));
-      crash = λ fine settled. weaker (view old.disk) (view now.disk) _ _ (λ d after. writing_left old.settings old.store file (step_of c.args.step) (texts.Flush old.store.version) same d after) (call.crash fine settled);
+          (λ none. subst (λ d. IsSynced (view d)) (sym (ap (λ x. x.disk) (call.nothing fine able none).1)) is_synced)
+          (λ some. ok.is_synced is_synced.honest some)
+          (empty_or_not (flush_frames old.store.version old.store.tree)));
+      crash = λ fine is_synced. weaker (view old.disk) (view now.disk) _ _ (λ d after. writing_left old.settings old.store file (step_of c.args.step) (texts.Flush old.store.version) same d after) (call.crash fine is_synced);
       sound = call.sound;
     }
 
@@ -182,8 +182,8 @@ returns-in_err-clean-in-Clean g c =
       device = λ device. (left.device device, words_of old.settings old.store Clean (step_of c.args.step) same tt);
       counted = tt;
       bytes = λ _. tt;
-      settled = λ _. tt;
-      crash = λ fine settled. weaker (view old.disk) (view c.clean.new.self.disk) _ _ (λ d after. clean_left old.settings old.store file (step_of c.args.step) same d after) (call.crash fine settled);
+      is_synced = λ _. tt;
+      crash = λ fine is_synced. weaker (view old.disk) (view c.clean.new.self.disk) _ _ (λ d after. clean_left old.settings old.store file (step_of c.args.step) same d after) (call.crash fine is_synced);
       sound = call.sound;
     })
 
@@ -221,8 +221,8 @@ returns-in_ok-clean-in-Clean g c =
       device = tt;
       counted = ok.counted;
       bytes = λ honest. clean_done old.settings old.store now.store file (step_of c.args.step) _ _ same head (ok.bytes honest);
-      settled = λ settled. ok.settled settled.honest;
-      crash = λ fine settled. weaker (view old.disk) (view now.disk) _ _ (λ d after. clean_left old.settings old.store file (step_of c.args.step) same d after) (call.crash fine settled);
+      is_synced = λ is_synced. ok.is_synced is_synced.honest;
+      crash = λ fine is_synced. weaker (view old.disk) (view now.disk) _ _ (λ d after. clean_left old.settings old.store file (step_of c.args.step) same d after) (call.crash fine is_synced);
       sound = call.sound;
     }
 
@@ -251,8 +251,8 @@ returns-in_err-upgrade-in-Upgrade g c =
       device = λ device. ((left.device device).1, words_of old.settings old.store Upgrade (step_of c.args.step) same (left.frames_under_way device));
       counted = tt;
       bytes = λ _. tt;
-      settled = λ _. tt;
-      crash = λ fine settled. weaker (view old.disk) (view c.upgrade.new.self.disk) _ _ (λ d after. writing_left old.settings old.store file (step_of c.args.step) texts.Upgrade same d after) (call.crash fine settled);
+      is_synced = λ _. tt;
+      crash = λ fine is_synced. weaker (view old.disk) (view c.upgrade.new.self.disk) _ _ (λ d after. writing_left old.settings old.store file (step_of c.args.step) texts.Upgrade same d after) (call.crash fine is_synced);
       sound = call.sound;
     })
 
@@ -288,7 +288,7 @@ returns-in_ok-upgrade-in-Upgrade g c =
       device = tt;
       counted = ok.counted;
       bytes = λ honest. writing_done old.settings old.store now.store file (step_of c.args.step) texts.Upgrade _ _ same n_is (ok.bytes honest);
-      settled = λ settled. ok.settled settled.honest;
-      crash = λ fine settled. weaker (view old.disk) (view now.disk) _ _ (λ d after. writing_left old.settings old.store file (step_of c.args.step) texts.Upgrade same d after) (call.crash fine settled);
+      is_synced = λ is_synced. ok.is_synced is_synced.honest;
+      crash = λ fine is_synced. weaker (view old.disk) (view now.disk) _ _ (λ d after. writing_left old.settings old.store file (step_of c.args.step) texts.Upgrade same d after) (call.crash fine is_synced);
       sound = call.sound;
     }

@@ -1,7 +1,7 @@
 use Rattle.std.proofs.Common.{◌≡◌, ◌≢◌, true, false, IfErr, inl, refl, sym, subst}
 use Rattle.std.proofs.lemmas.Result.{err_from_is_err_and}
 use Rattle.keys.specs.declared.version.Version.TheVariants.{Two}
-use Rattle.flush_log.specs.declared.text.Text.TheVariants as texts
+use Rattle.flush_log.specs.declared.text.CommitKind.TheVariants as texts
 use Rattle.flush_log.proofs.SameLemmas.{leaves_itself}
 use Rattle.recovery.proofs.ReadBytes.{kept_self}
 use Rattle.engine.specs.Calls.{IsWritingFault}
@@ -31,7 +31,7 @@ returns-then-self g c =
       device = λ device. absurd (failed_no_device device);
       counted = tt;
       bytes = λ _. tt;
-      settled = λ _. tt;
+      is_synced = λ _. tt;
       crash = λ fine. absurd (not_both old.has_failed bad fine);
       frames = tt;
       frames_under_way = λ device. absurd (failed_no_device device);
@@ -60,8 +60,8 @@ returns-in_err-admit_crew g c =
       device = λ device. absurd (bad_crew_no_device device);
       counted = tt;
       bytes = λ _. tt;
-      settled = λ _. tt;
-      crash = λ fine settled. leaves_itself (g.D.Disk.view old.disk) _ (g.met.D.Disk.lawful old.disk settled.honest) settled (inl refl);
+      is_synced = λ _. tt;
+      crash = λ fine is_synced. leaves_itself (g.D.Disk.view old.disk) _ (g.met.D.Disk.lawful old.disk is_synced.honest) is_synced (inl refl);
       frames = tt;
       frames_under_way = λ device. absurd (bad_crew_no_device device);
       sound = (sound, sound);
@@ -70,8 +70,8 @@ returns-in_err-admit_crew g c =
 -- ---- the log has version 2
 
 pub returns-then-eq-clause-crash : goal.returns-then-eq-clause-crash
-returns-then-eq-clause-crash g c fine settled =
-    leaves_itself (g.D.Disk.view c.args.self.now.disk) _ (g.met.D.Disk.lawful c.args.self.now.disk settled.honest) settled (inl refl)
+returns-then-eq-clause-crash g c fine is_synced =
+    leaves_itself (g.D.Disk.view c.args.self.now.disk) _ (g.met.D.Disk.lawful c.args.self.now.disk is_synced.honest) is_synced (inl refl)
 
 -- ---- written
 
@@ -103,8 +103,8 @@ returns g c =
       device = wrote.device;
       counted = wrote.counted;
       bytes = wrote.bytes;
-      settled = wrote.settled;
-      crash = λ _ settled. wrote.crash settled;
+      is_synced = wrote.is_synced;
+      crash = λ _ is_synced. wrote.crash is_synced;
       frames = wrote.frames;
       frames_under_way = wrote.frames_under_way;
       sound = wrote.sound;

@@ -3,7 +3,7 @@ use Rattle.std.proofs.lemmas.Bool.{true≢false}
 use Rattle.std.proofs.lemmas.Result.{err_from_is_err_and}
 use Rattle.mapping.specs.TreeInMemory.{TreeInMemory, tree_of}
 use Rattle.flush_log.specs.AfterFlush.{slot_of}
-use Rattle.flush_log.specs.FlushText.{version_with, text_of}
+use Rattle.flush_log.specs.FlushText.{version_with, commit_frames}
 use Rattle.flush_log.specs.Segments.{disk_size}
 use Rattle.flush_log.specs.Slot.{Slot}
 use Rattle.flush_log.proofs.SameLemmas.{leaves_itself}
@@ -41,13 +41,13 @@ returns-in_err-commit g c = rw (← c.self.view_is) (
       rest = (refl, kept_self old);
       refused = writing-refused text s st is _ old.seen _ _ err;
       unchanged = λ _. refl;
-      device = λ device. absurd (never-device s (slot_of planned) (text_of text planned.tree) _ err device);
+      device = λ device. absurd (never-device s (slot_of planned) (commit_frames text planned.tree) _ err device);
       counted = tt;
       bytes = λ _. tt;
-      settled = λ _. tt;
-      crash = λ settled. leaves_itself old _ (g.met.D.Disk.lawful disk settled.honest) settled (inl refl);
+      is_synced = λ _. tt;
+      crash = λ is_synced. leaves_itself old _ (g.met.D.Disk.lawful disk is_synced.honest) is_synced (inl refl);
       frames = tt;
-      frames_under_way = λ device. absurd (never-device s (slot_of planned) (text_of text planned.tree) _ err device);
+      frames_under_way = λ device. absurd (never-device s (slot_of planned) (commit_frames text planned.tree) _ err device);
       sound = (c.self.invariant.sound, c.self.invariant.sound);
     }))
 
@@ -56,7 +56,7 @@ returns-in_err-commit g c = rw (← c.self.view_is) (
 pub write-requires-clause-planned : goal.write-requires-clause-planned
 write-requires-clause-planned g c =
     let st = store_in c.self.inside.tree c.self.inside.log c.self.inside.version in
-    (slot_of (with_version (version_with c.args.text) st), text_of c.args.text st.tree, c.in_ok-commit.ensures.plan st.version)
+    (slot_of (with_version (version_with c.args.text) st), commit_frames c.args.text st.tree, c.in_ok-commit.ensures.plan st.version)
 
 pub invariant_of-self : goal.invariant_of-self
 invariant_of-self g c =
@@ -88,21 +88,21 @@ returns-in-Err g c = rw (← c.self.view_is) (
       device = λ _. (refl, refl);
       counted = tt;
       bytes = λ _. tt;
-      settled = λ _. tt;
-      crash = λ settled. (
-          let store : IsStoreOf s st old.seen = record { is = c.self.invariant.sound.is; step = c.self.invariant.sound.step fine settled.honest } in
+      is_synced = λ _. tt;
+      crash = λ is_synced. (
+          let store : IsStoreOf s st old.seen = record { is = c.self.invariant.sound.is; step = c.self.invariant.sound.step fine is_synced.honest } in
           writing-crashed text s st is _ p old (g.D.Disk.view c.write.new.disk) store
           (hides c.a_crash_in_a_flush_leaves_the_store_before_or_after.ensures.hidden c.a_crash_in_an_upgrade_leaves_the_store_before_or_after.ensures.hidden text)
-          (c.write.ensures.crash (slot_of (with_version (version_with text) st)) (text_of text st.tree) p settled));
+          (c.write.ensures.crash (slot_of (with_version (version_with text) st)) (commit_frames text st.tree) p is_synced));
       frames = tt;
-      frames_under_way = λ _. p.spelled.within;
+      frames_under_way = λ _. p.encoded.within;
       sound = (c.self.invariant.sound, (invariant_of-self g c).sound);
     })
 
 -- ---- written
 
 pub returns-clause-crash : goal.returns-clause-crash
-returns-clause-crash g c = rw (← c.self.view_is) (λ settled.
+returns-clause-crash g c = rw (← c.self.view_is) (λ is_synced.
     let s = c.self.inside.settings in
     let st = store_in c.self.inside.tree c.self.inside.log c.self.inside.version in
     let old = g.D.Disk.view c.self.inside.disk in
@@ -110,13 +110,13 @@ returns-clause-crash g c = rw (← c.self.view_is) (λ settled.
     let is = due-of text s _ _ c.self.view_is c.requires.own c.requires.due c.self.invariant.sound.is c.an_upgrade_is_a_flush_of_outdated_pages.ensures.some in
     let p = c.in_ok-commit.ensures.plan st.version in
     let fine = subst (λ x. x.has_failed ≡ false) (sym c.self.view_is) c.requires.fine in
-    let store : IsStoreOf s st old.seen = record { is = c.self.invariant.sound.is; step = c.self.invariant.sound.step fine settled.honest } in
+    let store : IsStoreOf s st old.seen = record { is = c.self.invariant.sound.is; step = c.self.invariant.sound.step fine is_synced.honest } in
     writing-crashed text s st is _ p old (g.D.Disk.view c.write.new.disk) store
     (hides c.a_crash_in_a_flush_leaves_the_store_before_or_after.ensures.hidden c.a_crash_in_an_upgrade_leaves_the_store_before_or_after.ensures.hidden text)
-    (c.write.ensures.crash (slot_of (with_version (version_with text) st)) (text_of text st.tree) p settled))
+    (c.write.ensures.crash (slot_of (with_version (version_with text) st)) (commit_frames text st.tree) p is_synced))
 
 pub returns-clause-frames : goal.returns-clause-frames
-returns-clause-frames g c = rw (← c.self.view_is) (c.in_ok-commit.ensures.plan c.self.inside.version).spelled.within
+returns-clause-frames g c = rw (← c.self.view_is) (c.in_ok-commit.ensures.plan c.self.inside.version).encoded.within
 
 pub returns-clause-version : goal.returns-clause-version
 returns-clause-version g c = ap (λ (t : Slot). t.version) (c.slot.view_is ∙ c.slot-slot.ensures ∙ (c.in_ok-commit.ensures.plan c.self.inside.version).slot)
@@ -142,7 +142,7 @@ returns-clause-bytes g c = rw (← c.self.view_is) (λ honest.
     let p = c.in_ok-commit.ensures.plan st.version in
     let tree_is = ap (λ (t : TreeInMemory). tree_of t) c.flushed.ensures ∙ c.a_table_marked_as_written_holds_the_flushed_tree.ensures s c.self.inside.tree c.self.invariant.sound.is.good c.self.invariant.sound.is.proper in
     let done = written-now text s st is _ p c.flushed.new.self _ _ _ _ tree_is (c.slot.view_is ∙ c.slot-slot.ensures) old.seen in
-    on-bytes _ _ _ _ done (c.in_default.ensures.written (slot_of (with_version (version_with text) st)) (text_of text st.tree) p honest))
+    on-bytes _ _ _ _ done (c.in_default.ensures.written (slot_of (with_version (version_with text) st)) (commit_frames text st.tree) p honest))
 
 pub invariant_of-self-2 : goal.invariant_of-self-2
 invariant_of-self-2 g c =
@@ -160,10 +160,10 @@ invariant_of-self-2 g c =
     let done = written-now text s st is _ p c.flushed.new.self _ _ _ _ tree_is (c.slot.view_is ∙ c.slot-slot.ensures) old.seen in
     record {
       home = rw c.flushed.ensures c.self.invariant.home;
-      sound = rw fine (written-sound view text s st _ c.self.inside.disk c.write.new.disk _ (subst (λ b. IsSound view (state_of s tree log st.version c.self.inside.disk b)) fine c.self.invariant.sound) is.own p.spelled.within
+      sound = rw fine (written-sound view text s st _ c.self.inside.disk c.write.new.disk _ (subst (λ b. IsSound view (state_of s tree log st.version c.self.inside.disk b)) fine c.self.invariant.sound) is.own p.encoded.within
           (keeps c.what_was_flushed_is_what_is_read.ensures.kept c.what_was_upgraded_is_what_is_read.ensures.kept text)
           (reads c.what_was_flushed_is_what_is_read.ensures.read c.what_was_upgraded_is_what_is_read.ensures.read text) c.write.ensures.kept done
-          (λ honest. c.in_default.ensures.written (slot_of (with_version (version_with text) st)) (text_of text st.tree) p honest));
+          (λ honest. c.in_default.ensures.written (slot_of (with_version (version_with text) st)) (commit_frames text st.tree) p honest));
     }
 
 pub returns-clause-sound : goal.returns-clause-sound

@@ -62,21 +62,21 @@ returns-clause-refused g c =
 
 pub returns-clause-bytes : goal.returns-clause-bytes
 returns-clause-bytes g c honest =
-    (c.in_ok-write_hidden.ensures.written honest ∙ ap (λ (b : List ℕ). overlay (g.D.Disk.view c.args.disk.now).seen 0 b) c.new_bytes.ensures, c.in_ok-write_hidden.ensures.settled honest)
+    (c.in_ok-write_hidden.ensures.written honest ∙ ap (λ (b : List ℕ). overlay (g.D.Disk.view c.args.disk.now).seen 0 b) c.new_bytes.ensures, c.in_ok-write_hidden.ensures.is_synced honest)
 
 -- ---- crashes: nothing was called
 
 pub returns-in_err-check-clause-crash : goal.returns-in_err-check-clause-crash
-returns-in_err-check-clause-crash g c settled =
+returns-in_err-check-clause-crash g c is_synced =
     let old = g.D.Disk.view c.args.disk.now in
-    none_leaves old (IsLeftHiding old.seen) (g.met.D.Disk.lawful c.args.disk.now settled.honest) settled (inl refl)
+    none_leaves old (IsLeftHiding old.seen) (g.met.D.Disk.lawful c.args.disk.now is_synced.honest) is_synced (inl refl)
 
 pub returns-then-len-disk_size-clause-crash : goal.returns-then-len-disk_size-clause-crash
-returns-then-len-disk_size-clause-crash g c settled =
+returns-then-len-disk_size-clause-crash g c is_synced =
     let old = g.D.Disk.view c.args.disk.now in
-    none_leaves old (IsLeftHiding old.seen) (g.met.D.Disk.lawful c.args.disk.now settled.honest) settled (inl refl)
+    none_leaves old (IsLeftHiding old.seen) (g.met.D.Disk.lawful c.args.disk.now is_synced.honest) is_synced (inl refl)
 
 pub returns-in_err-tree-clause-crash : goal.returns-in_err-tree-clause-crash
-returns-in_err-tree-clause-crash g c settled =
+returns-in_err-tree-clause-crash g c is_synced =
     let old = g.D.Disk.view c.args.disk.now in
-    none_leaves old (IsLeftHiding old.seen) (g.met.D.Disk.lawful c.args.disk.now settled.honest) settled (inl refl)
+    none_leaves old (IsLeftHiding old.seen) (g.met.D.Disk.lawful c.args.disk.now is_synced.honest) is_synced (inl refl)

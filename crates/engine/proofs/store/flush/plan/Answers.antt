@@ -1,10 +1,10 @@
 use Rattle.std.proofs.Common.{arith}
 use Rattle.flush_log.specs.AfterFlush.{slot_of}
-use Rattle.flush_log.specs.FlushText.{version_with, text_of}
+use Rattle.flush_log.specs.FlushText.{version_with, commit_frames}
 use Rattle.flush_log.proofs.SlotLemmas.{slot-is}
 use Rattle.engine.specs.State.{store_in}
 use Rattle.engine.proofs.CreateLemmas.{slot-in}
-use Rattle.engine.proofs.FlushDone.{text-spelled, as-writing}
+use Rattle.engine.proofs.FlushDone.{text-encoded, as-writing}
 use Rattle.engine.proofs.store.flush.plan.Goals as goal
 
 pub plan-requires-clause-numbers : goal.plan-requires-clause-numbers
@@ -27,7 +27,7 @@ plan-requires-clause-text g c =
     let (version, store) = c.requires.store in
     let st = store_in c.args.tree.now c.args.log version in
     let same = slot-in c.args.tree.now c.args.log _ _ c.version_with.result (version_with c.args.text) c.root.ensures c.height.ensures c.version_with.ensures in
-    (text_of c.args.text st.tree, text-spelled s c.args.text st _ _ same c.requires.some c.in_ok-images.ensures.text (c.in_ok-images.ensures.frames s store.proper))
+    (commit_frames c.args.text st.tree, text-encoded s c.args.text st _ _ same c.requires.some c.in_ok-images.ensures.text (c.in_ok-images.ensures.frames s store.proper))
 
 pub returns-clause-plan : goal.returns-clause-plan
 returns-clause-plan g c version =
@@ -36,7 +36,7 @@ returns-clause-plan g c version =
     let st = store_in c.args.tree.now c.args.log version in
     let same = slot-in c.args.tree.now c.args.log _ _ c.version_with.result (version_with c.args.text) c.root.ensures c.height.ensures c.version_with.ensures in
     (as-writing s c.args.text st _ c.plan.result same
-    (c.plan.ensures (text_of c.args.text st.tree) (text-spelled s c.args.text st _ _ same c.requires.some c.in_ok-images.ensures.text (c.in_ok-images.ensures.frames s store.proper)))).0
+    (c.plan.ensures (commit_frames c.args.text st.tree) (text-encoded s c.args.text st _ _ same c.requires.some c.in_ok-images.ensures.text (c.in_ok-images.ensures.frames s store.proper)))).0
 
 pub returns-clause-err : goal.returns-clause-err
 returns-clause-err g c =
@@ -45,4 +45,4 @@ returns-clause-err g c =
     let st = store_in c.args.tree.now c.args.log version in
     let same = slot-in c.args.tree.now c.args.log _ _ c.version_with.result (version_with c.args.text) c.root.ensures c.height.ensures c.version_with.ensures in
     (as-writing s c.args.text st _ c.plan.result same
-    (c.plan.ensures (text_of c.args.text st.tree) (text-spelled s c.args.text st _ _ same c.requires.some c.in_ok-images.ensures.text (c.in_ok-images.ensures.frames s store.proper)))).1
+    (c.plan.ensures (commit_frames c.args.text st.tree) (text-encoded s c.args.text st _ _ same c.requires.some c.in_ok-images.ensures.text (c.in_ok-images.ensures.frames s store.proper)))).1

@@ -1,7 +1,7 @@
 use Rattle.std.proofs.Common.{sym, ap, ◌∙◌, Some}
-use Rattle.delta_chain.specs.Late.{seen}
+use Rattle.delta_chain.specs.Lazy.{seen}
 use Rattle.delta_chain.specs.Layers.{Layers, entries_of}
-use Rattle.delta_chain.proofs.LateLemmas.{entries-seen}
+use Rattle.delta_chain.proofs.LazyLemmas.{entries-seen}
 use Rattle.index_page.specs.Page.{PageOfKind, low_of}
 use Rattle.keys.specs.Bytes.{Bytes}
 use Rattle.engine.proofs.store.reads.leaf_under.Goals as goal

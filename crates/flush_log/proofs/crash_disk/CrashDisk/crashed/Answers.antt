@@ -14,8 +14,8 @@ returns-in_err-bytes-clause-filled g c = not_made c.from_residual.result _ c.fro
 pub returns-in_err-bytes-clause-written : goal.returns-in_err-bytes-clause-written
 returns-in_err-bytes-clause-written g c _ = not_made c.from_residual.result _ c.from_residual.ensures.0
 
-pub returns-in_err-bytes-clause-settled : goal.returns-in_err-bytes-clause-settled
-returns-in_err-bytes-clause-settled g c = not_made c.from_residual.result _ c.from_residual.ensures.0
+pub returns-in_err-bytes-clause-is_synced : goal.returns-in_err-bytes-clause-is_synced
+returns-in_err-bytes-clause-is_synced g c = not_made c.from_residual.result _ c.from_residual.ensures.0
 
 pub returns-in_err-bytes-clause-size : goal.returns-in_err-bytes-clause-size
 returns-in_err-bytes-clause-size g c = not_made c.from_residual.result _ c.from_residual.ensures.0
@@ -32,40 +32,40 @@ returns-in_err-bytes-clause-calls g c = not_made c.from_residual.result _ c.from
 pub offset_bounds-calls-self : goal.offset_bounds-calls-self
 offset_bounds-calls-self g c =
     let old = c.args.self.now in
-    let within = since-within old.disk.calls.items c.calls.result.now c.calls.ensures old.disk.len old.since old.settled.items old.left.within in
+    let within = since-within old.disk.calls.items c.calls.result.now c.calls.ensures old.disk.len old.since old.is_synced.items old.left.within in
     search rules
 
 pub slice_bounds-tear-count : goal.slice_bounds-tear-count
 slice_bounds-tear-count g c =
     let old = c.args.self.now in
-    let within = since-within old.disk.calls.items c.calls.result.now c.calls.ensures old.disk.len old.since old.settled.items old.left.within in
+    let within = since-within old.disk.calls.items c.calls.result.now c.calls.ensures old.disk.len old.since old.is_synced.items old.left.within in
     search rules
 
 pub slice_bounds-tear-start : goal.slice_bounds-tear-start
 slice_bounds-tear-start g c =
     let old = c.args.self.now in
-    let within = since-within old.disk.calls.items c.calls.result.now c.calls.ensures old.disk.len old.since old.settled.items old.left.within in
+    let within = since-within old.disk.calls.items c.calls.result.now c.calls.ensures old.disk.len old.since old.is_synced.items old.left.within in
     search rules
 
 pub slice_bounds-tear-end : goal.slice_bounds-tear-end
 slice_bounds-tear-end g c =
     let old = c.args.self.now in
-    let within = since-within old.disk.calls.items c.calls.result.now c.calls.ensures old.disk.len old.since old.settled.items old.left.within in
+    let within = since-within old.disk.calls.items c.calls.result.now c.calls.ensures old.disk.len old.since old.is_synced.items old.left.within in
     search rules
 
 pub tear-requires : goal.tear-requires
 tear-requires g c =
     let old = c.args.self.now in
-    let copied : c.in_ok-bytes.bytes.items ≡ old.settled.items = c.in_ok-bytes.ensures.items_if_clones_equal (λ x y h. h) ∙ c.deref.ensures.value in
-    tear-fits old.disk.calls.items c.calls.result.now c.calls.ensures old.disk.len old.since old.settled.items c.in_ok-bytes.bytes.items copied old.disk.in_range old.left.long
+    let copied : c.in_ok-bytes.bytes.items ≡ old.is_synced.items = c.in_ok-bytes.ensures.items_if_clones_equal (λ x y h. h) ∙ c.deref.ensures.value in
+    tear-fits old.disk.calls.items c.calls.result.now c.calls.ensures old.disk.len old.since old.is_synced.items c.in_ok-bytes.bytes.items copied old.disk.in_range old.left.long
 
 pub returns-clause-filled : goal.returns-clause-filled
 returns-clause-filled g c =
     let old = c.args.self.now in
     let n = old.disk.len in
-    let copied : c.in_ok-bytes.bytes.items ≡ old.settled.items = c.in_ok-bytes.ensures.items_if_clones_equal (λ x y h. h) ∙ c.deref.ensures.value in
+    let copied : c.in_ok-bytes.bytes.items ≡ old.is_synced.items = c.in_ok-bytes.ensures.items_if_clones_equal (λ x y h. h) ∙ c.deref.ensures.value in
     seen_as c.holding.result (λ disk. seen_after (calls_of disk.disk.calls.items) (replicate disk.disk.len 0)) c.tear.new.file.items (left_with c.args.fill (calls_of old.disk.calls.items) (replicate n 0) (replicate n 0))
-    (tear-left old.disk.calls.items c.calls.result.now c.calls.ensures n old.since old.settled.items c.args.fill c.in_ok-bytes.bytes.items c.tear.new.file.items copied old.left c.tear.ensures.torn) c.holding.ensures.seen
+    (tear-left old.disk.calls.items c.calls.result.now c.calls.ensures n old.since old.is_synced.items c.args.fill c.in_ok-bytes.bytes.items c.tear.new.file.items copied old.left c.tear.ensures.torn) c.holding.ensures.seen
 
 pub returns-clause-left : goal.returns-clause-left
 returns-clause-left g c =
@@ -83,13 +83,13 @@ returns-clause-written g c is =
     seen_as c.holding.result (λ disk. seen_after (calls_of disk.disk.calls.items) (replicate disk.disk.len 0)) (left_with c.args.fill calls zeros zeros) (seen_after calls zeros)
     (ap (λ fill. left_with fill calls zeros zeros) is ∙ left-written calls zeros) (returns-clause-filled g c)
 
-pub returns-clause-settled : goal.returns-clause-settled
-returns-clause-settled g c = c.holding.ensures.settled
+pub returns-clause-is_synced : goal.returns-clause-is_synced
+returns-clause-is_synced g c = c.holding.ensures.is_synced
 
 pub returns-clause-size : goal.returns-clause-size
 returns-clause-size g c =
     let old = c.args.self.now in
-    let copied : c.in_ok-bytes.bytes.items ≡ old.settled.items = c.in_ok-bytes.ensures.items_if_clones_equal (λ x y h. h) ∙ c.deref.ensures.value in
+    let copied : c.in_ok-bytes.bytes.items ≡ old.is_synced.items = c.in_ok-bytes.ensures.items_if_clones_equal (λ x y h. h) ∙ c.deref.ensures.value in
     seen_as c.holding.result (λ disk. length {A = ℕ} (replicate disk.disk.len 0)) (length c.tear.new.file.items) (length {A = ℕ} (replicate old.disk.len 0))
     (c.tear.ensures.long ∙ ap length copied ∙ old.left.long) c.holding.ensures.size
 

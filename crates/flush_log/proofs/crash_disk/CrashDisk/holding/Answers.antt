@@ -3,27 +3,27 @@ use Rattle.std.proofs.lemmas.List.{length-map, length-replicate}
 use Rattle.flush_log.specs.Commit.{seen_after}
 use Rattle.flush_log.specs.Commit.Call.{Write, Sync}
 use Rattle.flush_log.specs.Record.{call_of, calls_of}
-use Rattle.flush_log.proofs.CrashLemmas.{over-all, settled-holding, not_made}
+use Rattle.flush_log.proofs.CrashLemmas.{over-all, is_synced-holding, not_made}
 use Rattle.flush_log.proofs.RecordLemmas.{sync_settles}
 use Rattle.flush_log.proofs.crash_disk.CrashDisk.holding.Goals as goal
 
-pub returns-in_err-settled-clause-size : goal.returns-in_err-settled-clause-size
-returns-in_err-settled-clause-size g c = not_made c.from_residual.result _ c.from_residual.ensures.0
+pub returns-in_err-is_synced-clause-size : goal.returns-in_err-is_synced-clause-size
+returns-in_err-is_synced-clause-size g c = not_made c.from_residual.result _ c.from_residual.ensures.0
 
-pub returns-in_err-settled-clause-seen : goal.returns-in_err-settled-clause-seen
-returns-in_err-settled-clause-seen g c = not_made c.from_residual.result _ c.from_residual.ensures.0
+pub returns-in_err-is_synced-clause-seen : goal.returns-in_err-is_synced-clause-seen
+returns-in_err-is_synced-clause-seen g c = not_made c.from_residual.result _ c.from_residual.ensures.0
 
-pub returns-in_err-settled-clause-settled : goal.returns-in_err-settled-clause-settled
-returns-in_err-settled-clause-settled g c = not_made c.from_residual.result _ c.from_residual.ensures.0
+pub returns-in_err-is_synced-clause-is_synced : goal.returns-in_err-is_synced-clause-is_synced
+returns-in_err-is_synced-clause-is_synced g c = not_made c.from_residual.result _ c.from_residual.ensures.0
 
-pub returns-in_err-settled-clause-failures : goal.returns-in_err-settled-clause-failures
-returns-in_err-settled-clause-failures g c = not_made c.from_residual.result _ c.from_residual.ensures.0
+pub returns-in_err-is_synced-clause-failures : goal.returns-in_err-is_synced-clause-failures
+returns-in_err-is_synced-clause-failures g c = not_made c.from_residual.result _ c.from_residual.ensures.0
 
-pub returns-in_err-settled-clause-running : goal.returns-in_err-settled-clause-running
-returns-in_err-settled-clause-running g c = not_made c.from_residual.result _ c.from_residual.ensures.0
+pub returns-in_err-is_synced-clause-running : goal.returns-in_err-is_synced-clause-running
+returns-in_err-is_synced-clause-running g c = not_made c.from_residual.result _ c.from_residual.ensures.0
 
-pub returns-in_err-settled-clause-calls : goal.returns-in_err-settled-clause-calls
-returns-in_err-settled-clause-calls g c = not_made c.from_residual.result _ c.from_residual.ensures.0
+pub returns-in_err-is_synced-clause-calls : goal.returns-in_err-is_synced-clause-calls
+returns-in_err-is_synced-clause-calls g c = not_made c.from_residual.result _ c.from_residual.ensures.0
 
 pub returns-in_err-disk-clause-size : goal.returns-in_err-disk-clause-size
 returns-in_err-disk-clause-size g c = not_made c.from_residual-in_err-disk.result _ c.from_residual-in_err-disk.ensures.0
@@ -31,8 +31,8 @@ returns-in_err-disk-clause-size g c = not_made c.from_residual-in_err-disk.resul
 pub returns-in_err-disk-clause-seen : goal.returns-in_err-disk-clause-seen
 returns-in_err-disk-clause-seen g c = not_made c.from_residual-in_err-disk.result _ c.from_residual-in_err-disk.ensures.0
 
-pub returns-in_err-disk-clause-settled : goal.returns-in_err-disk-clause-settled
-returns-in_err-disk-clause-settled g c = not_made c.from_residual-in_err-disk.result _ c.from_residual-in_err-disk.ensures.0
+pub returns-in_err-disk-clause-is_synced : goal.returns-in_err-disk-clause-is_synced
+returns-in_err-disk-clause-is_synced g c = not_made c.from_residual-in_err-disk.result _ c.from_residual-in_err-disk.ensures.0
 
 pub returns-in_err-disk-clause-failures : goal.returns-in_err-disk-clause-failures
 returns-in_err-disk-clause-failures g c = not_made c.from_residual-in_err-disk.result _ c.from_residual-in_err-disk.ensures.0
@@ -47,12 +47,12 @@ pub invariant_of-result : goal.invariant_of-result
 invariant_of-result g c =
     let disk = c.in_ok-disk.disk in
     let made = c.in_ok-disk.ensures in
-    let settled = c.in_ok-settled.settled.items in
-    let copied : settled ≡ c.args.bytes.items = c.in_ok-settled.ensures.items_if_clones_equal (λ x y h. h) ∙ c.deref.ensures.value in
+    let is_synced = c.in_ok-is_synced.is_synced.items in
+    let copied : is_synced ≡ c.args.bytes.items = c.in_ok-is_synced.ensures.items_if_clones_equal (λ x y h. h) ∙ c.deref.ensures.value in
     record {
       whole = ap length made.kept ∙ sym made.len;
       left =
-          settled-holding disk.len (length c.calls-since.result.now) settled (calls_of disk.calls.items) (ap length copied ∙ sym made.len)
+          is_synced-holding disk.len (length c.calls-since.result.now) is_synced (calls_of disk.calls.items) (ap length copied ∙ sym made.len)
           (made.calls ∙ ap (λ (bytes : List ℕ). Write 0 bytes ∷ Sync ∷ []) (sym copied)) (ap (λ calls. length calls) c.calls-since.ensures ∙ sym (length-map disk.calls.items call_of));
     }
 
@@ -67,8 +67,8 @@ returns-clause-seen g c =
     let n = c.in_ok-disk.disk.len in
     ap (λ calls. seen_after calls (replicate n 0)) c.in_ok-disk.ensures.calls ∙ over-all n c.args.bytes.items (sym c.in_ok-disk.ensures.len)
 
-pub returns-clause-settled : goal.returns-clause-settled
-returns-clause-settled g c =
+pub returns-clause-is_synced : goal.returns-clause-is_synced
+returns-clause-is_synced g c =
     let disk = c.in_ok-disk.disk in
     let made = c.in_ok-disk.ensures in
     let within : 0 + length c.args.bytes.items ≤ disk.len = omega (arith, made.len) in

@@ -7,8 +7,8 @@ returns-in_err-resize-clause-size g c = owes_nothing c.from_residual.result _ c.
 pub returns-in_err-resize-clause-seen : goal.returns-in_err-resize-clause-seen
 returns-in_err-resize-clause-seen g c = owes_nothing c.from_residual.result _ c.from_residual.ensures.0
 
-pub returns-in_err-resize-clause-settled : goal.returns-in_err-resize-clause-settled
-returns-in_err-resize-clause-settled g c = owes_nothing c.from_residual.result _ c.from_residual.ensures.0
+pub returns-in_err-resize-clause-is_synced : goal.returns-in_err-resize-clause-is_synced
+returns-in_err-resize-clause-is_synced g c = owes_nothing c.from_residual.result _ c.from_residual.ensures.0
 
 pub returns-in_err-resize-clause-failures : goal.returns-in_err-resize-clause-failures
 returns-in_err-resize-clause-failures g c = owes_nothing c.from_residual.result _ c.from_residual.ensures.0
@@ -19,8 +19,8 @@ returns-in_err-resize-clause-running g c = owes_nothing c.from_residual.result _
 pub returns-in_err-resize-clause-calls : goal.returns-in_err-resize-clause-calls
 returns-in_err-resize-clause-calls g c = owes_nothing c.from_residual.result _ c.from_residual.ensures.0
 
-pub returns-clause-settled : goal.returns-clause-settled
-returns-clause-settled g c = c.holding.ensures.settled
+pub returns-clause-is_synced : goal.returns-clause-is_synced
+returns-clause-is_synced g c = c.holding.ensures.is_synced
 
 pub returns-clause-failures : goal.returns-clause-failures
 returns-clause-failures g c = c.holding.ensures.failures

@@ -6,7 +6,7 @@ use Rattle.flush_log.specs.Record.{AreCalls, calls_of}
 use Rattle.flush_log.specs.contracts.crash_disk.Moment.{the_type}
 use Rattle.flush_log.specs.declared.crash_disk.Moment.{Moment}
 use Rattle.flush_log.specs.declared.crash_disk.Moment.TheVariants.{Running, Stopping, Stopped}
-use Rattle.flush_log.proofs.CrashLemmas.{since-following, since-within, tear-fits, settled-tear, settled-still}
+use Rattle.flush_log.proofs.CrashLemmas.{since-following, since-within, tear-fits, is_synced-tear, is_synced-still}
 use Rattle.flush_log.proofs.RecordLemmas.{none_leaves, none_same}
 use Rattle.flush_log.proofs.ViewLemmas.{counted_failed}
 use Rattle.flush_log.proofs.crash_disk.CrashDiskDisk.sync.Goals as goal
@@ -32,8 +32,8 @@ returns-then-ne-clause-kept g c = record { honest = refl; size = refl }
 pub returns-then-ne-clause-failed : goal.returns-then-ne-clause-failed
 returns-then-ne-clause-failed g c = c.count_failure.ensures
 
-pub returns-then-ne-clause-settled : goal.returns-then-ne-clause-settled
-returns-then-ne-clause-settled g c _ = tt
+pub returns-then-ne-clause-is_synced : goal.returns-then-ne-clause-is_synced
+returns-then-ne-clause-is_synced g c _ = tt
 
 pub returns-then-ne-clause-seen : goal.returns-then-ne-clause-seen
 returns-then-ne-clause-seen g c _ = refl
@@ -64,7 +64,7 @@ offset_bounds-calls-self g c =
     let old = c.args.self.now in
     let calls = c.sync_recorded.new.self.calls.items in
     let more = since-following (calls_of old.disk.calls.items) (calls_of calls) Sync old.since c.in-Ok.ensures.done old.left.within in
-    let within = since-within calls c.calls.result.now c.calls.ensures old.disk.len old.since old.settled.items more in
+    let within = since-within calls c.calls.result.now c.calls.ensures old.disk.len old.since old.is_synced.items more in
     search rules
 
 pub slice_bounds-tear-count : goal.slice_bounds-tear-count
@@ -72,7 +72,7 @@ slice_bounds-tear-count g c =
     let old = c.args.self.now in
     let calls = c.sync_recorded.new.self.calls.items in
     let more = since-following (calls_of old.disk.calls.items) (calls_of calls) Sync old.since c.in-Ok.ensures.done old.left.within in
-    let within = since-within calls c.calls.result.now c.calls.ensures old.disk.len old.since old.settled.items more in
+    let within = since-within calls c.calls.result.now c.calls.ensures old.disk.len old.since old.is_synced.items more in
     search rules
 
 pub slice_bounds-tear-start : goal.slice_bounds-tear-start
@@ -80,7 +80,7 @@ slice_bounds-tear-start g c =
     let old = c.args.self.now in
     let calls = c.sync_recorded.new.self.calls.items in
     let more = since-following (calls_of old.disk.calls.items) (calls_of calls) Sync old.since c.in-Ok.ensures.done old.left.within in
-    let within = since-within calls c.calls.result.now c.calls.ensures old.disk.len old.since old.settled.items more in
+    let within = since-within calls c.calls.result.now c.calls.ensures old.disk.len old.since old.is_synced.items more in
     search rules
 
 pub slice_bounds-tear-end : goal.slice_bounds-tear-end
@@ -88,14 +88,14 @@ slice_bounds-tear-end g c =
     let old = c.args.self.now in
     let calls = c.sync_recorded.new.self.calls.items in
     let more = since-following (calls_of old.disk.calls.items) (calls_of calls) Sync old.since c.in-Ok.ensures.done old.left.within in
-    let within = since-within calls c.calls.result.now c.calls.ensures old.disk.len old.since old.settled.items more in
+    let within = since-within calls c.calls.result.now c.calls.ensures old.disk.len old.since old.is_synced.items more in
     search rules
 
 pub tear-requires : goal.tear-requires
 tear-requires g c =
     let old = c.args.self.now in
     let new = c.sync_recorded.new.self in
-    tear-fits new.calls.items c.calls.result.now c.calls.ensures old.disk.len old.since old.settled.items old.settled.items refl
+    tear-fits new.calls.items c.calls.result.now c.calls.ensures old.disk.len old.since old.is_synced.items old.is_synced.items refl
     (subst (λ (n : ℕ). AreCalls n (calls_of new.calls.items)) c.sync_recorded.ensures.len new.in_range) old.left.long
 
 pub invariant_of-self-in-Ok : goal.invariant_of-self-in-Ok
@@ -105,7 +105,7 @@ invariant_of-self-in-Ok g c =
     record {
       whole = ap length c.sync_recorded.ensures.kept ∙ old.whole ∙ sym c.sync_recorded.ensures.len;
       left =
-          settled-tear new.calls.items c.calls.result.now c.calls-in-Ok.result.now old.disk.len new.len (calls_of old.disk.calls.items) old.since old.settled.items c.tear.new.file.items
+          is_synced-tear new.calls.items c.calls.result.now c.calls-in-Ok.result.now old.disk.len new.len (calls_of old.disk.calls.items) old.since old.is_synced.items c.tear.new.file.items
           c.calls.ensures c.calls-in-Ok.ensures c.sync_recorded.ensures.len c.in-Ok.ensures.done old.left c.tear.ensures.torn c.tear.ensures.long;
     }
 
@@ -127,8 +127,8 @@ returns-in-Ok-clause-running g c = sym c.next_moment.ensures.moment ∙ of_runni
 pub returns-in-Ok-clause-none : goal.returns-in-Ok-clause-none
 returns-in-Ok-clause-none g c = tt
 
-pub returns-in-Ok-clause-settled : goal.returns-in-Ok-clause-settled
-returns-in-Ok-clause-settled g c _ = c.in-Ok.ensures.settled
+pub returns-in-Ok-clause-is_synced : goal.returns-in-Ok-clause-is_synced
+returns-in-Ok-clause-is_synced g c _ = c.in-Ok.ensures.is_synced
 
 pub returns-in-Ok-clause-seen : goal.returns-in-Ok-clause-seen
 returns-in-Ok-clause-seen g c _ = c.sync_recorded.ensures.seen
@@ -143,7 +143,7 @@ invariant_of-self-in-Err g c =
     let new = c.sync_recorded.new.self in
     record {
       whole = ap length c.sync_recorded.ensures.kept ∙ old.whole ∙ sym c.sync_recorded.ensures.len;
-      left = settled-still old.disk.len new.len (calls_of old.disk.calls.items) (calls_of new.calls.items) old.since old.settled.items c.sync_recorded.ensures.len c.in-Err.ensures.refused old.left;
+      left = is_synced-still old.disk.len new.len (calls_of old.disk.calls.items) (calls_of new.calls.items) old.since old.is_synced.items c.sync_recorded.ensures.len c.in-Err.ensures.refused old.left;
     }
 
 pub returns-in-Err-clause-kept : goal.returns-in-Err-clause-kept
@@ -152,8 +152,8 @@ returns-in-Err-clause-kept g c = record { honest = refl; size = ap (λ (n : ℕ)
 pub returns-in-Err-clause-failed : goal.returns-in-Err-clause-failed
 returns-in-Err-clause-failed g c = c.count_failure-in-Err.ensures
 
-pub returns-in-Err-clause-settled : goal.returns-in-Err-clause-settled
-returns-in-Err-clause-settled g c _ = tt
+pub returns-in-Err-clause-is_synced : goal.returns-in-Err-clause-is_synced
+returns-in-Err-clause-is_synced g c _ = tt
 
 pub returns-in-Err-clause-seen : goal.returns-in-Err-clause-seen
 returns-in-Err-clause-seen g c _ = c.sync_recorded.ensures.seen

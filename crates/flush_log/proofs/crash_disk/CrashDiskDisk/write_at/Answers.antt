@@ -8,7 +8,7 @@ use Rattle.flush_log.specs.declared.crash_disk.Moment.TheVariants.{Stopping, Sto
 use Rattle.flush_log.proofs.RecordLemmas.{none_leaves}
 use Rattle.flush_log.proofs.OverlayLemmas.{agree_same}
 use Rattle.flush_log.proofs.FaultLemmas.{cut_short, not_cut}
-use Rattle.flush_log.proofs.CrashLemmas.{whole-still, settled-either}
+use Rattle.flush_log.proofs.CrashLemmas.{whole-still, is_synced-either}
 use Rattle.flush_log.proofs.crash_disk.CrashDiskDisk.write_at.Goals as goal
 
 pub returns-in-Running-clause-kept : goal.returns-in-Running-clause-kept
@@ -78,7 +78,7 @@ invariant_of-self g c =
     record {
       whole = whole-still (length old.disk.kept.items) (length new.kept.items) old.disk.len new.len c.write_recorded.ensures.len old.whole c.write_recorded.ensures.grows new.short;
       left =
-          settled-either c.write_recorded.result old.disk.len new.len (calls_of old.disk.calls.items) (calls_of new.calls.items) old.since old.settled.items c.args.at c.args.bytes.now
+          is_synced-either c.write_recorded.result old.disk.len new.len (calls_of old.disk.calls.items) (calls_of new.calls.items) old.since old.is_synced.items c.args.at c.args.bytes.now
           c.write_recorded.ensures.len c.write_recorded.ensures.done c.write_recorded.ensures.refused old.left;
     }
 
@@ -89,7 +89,7 @@ invariant_of-self-in-Stopping g c =
     record {
       whole = whole-still (length old.disk.kept.items) (length new.kept.items) old.disk.len new.len c.write_recorded-in-Stopping.ensures.len old.whole c.write_recorded-in-Stopping.ensures.grows new.short;
       left =
-          settled-either c.write_recorded-in-Stopping.result old.disk.len new.len (calls_of old.disk.calls.items) (calls_of new.calls.items) old.since old.settled.items c.args.at c.args.bytes.now
+          is_synced-either c.write_recorded-in-Stopping.result old.disk.len new.len (calls_of old.disk.calls.items) (calls_of new.calls.items) old.since old.is_synced.items c.args.at c.args.bytes.now
           c.write_recorded-in-Stopping.ensures.len c.write_recorded-in-Stopping.ensures.done c.write_recorded-in-Stopping.ensures.refused old.left;
     }
 

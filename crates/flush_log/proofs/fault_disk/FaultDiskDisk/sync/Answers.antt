@@ -12,8 +12,8 @@ returns-then-is_to_fail-clause-kept g c = record { honest = refl; size = refl }
 pub returns-then-is_to_fail-clause-failed : goal.returns-then-is_to_fail-clause-failed
 returns-then-is_to_fail-clause-failed g c = c.count_failure.ensures
 
-pub returns-then-is_to_fail-clause-settled : goal.returns-then-is_to_fail-clause-settled
-returns-then-is_to_fail-clause-settled g c _ = tt
+pub returns-then-is_to_fail-clause-is_synced : goal.returns-then-is_to_fail-clause-is_synced
+returns-then-is_to_fail-clause-is_synced g c _ = tt
 
 pub returns-then-is_to_fail-clause-seen : goal.returns-then-is_to_fail-clause-seen
 returns-then-is_to_fail-clause-seen g c _ = refl

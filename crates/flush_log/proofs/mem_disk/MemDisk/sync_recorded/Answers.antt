@@ -44,8 +44,8 @@ returns-in-Err-clause-none g c = none_same c.args.self.now.len c.args.self.now.l
 pub returns-in-Err-clause-failed : goal.returns-in-Err-clause-failed
 returns-in-Err-clause-failed g c = c.count_failure.ensures
 
-pub returns-in-Err-clause-settled : goal.returns-in-Err-clause-settled
-returns-in-Err-clause-settled g c = tt
+pub returns-in-Err-clause-is_synced : goal.returns-in-Err-clause-is_synced
+returns-in-Err-clause-is_synced g c = tt
 
 pub returns-in-Err-clause-seen : goal.returns-in-Err-clause-seen
 returns-in-Err-clause-seen g c = ap (λ calls. seen_after (calls_of calls) (replicate c.args.self.now.len 0)) c.in-Err.ensures.err
@@ -71,8 +71,8 @@ invariant_of-self g c =
       recorded = old.recorded ∙ ap (λ calls. seen_after (calls_of calls) (replicate n 0)) (sym is);
     })
 
-pub returns-in-Ok-clause-settled : goal.returns-in-Ok-clause-settled
-returns-in-Ok-clause-settled g c =
+pub returns-in-Ok-clause-is_synced : goal.returns-in-Ok-clause-is_synced
+returns-in-Ok-clause-is_synced g c =
     let old = c.args.self.now in
     sync_settles old.len old.len (calls_of old.calls.items) (calls_of c.note.new.calls.items) refl c.in-Ok.ensures.ok old.in_range
 

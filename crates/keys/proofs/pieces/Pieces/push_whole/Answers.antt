@@ -8,22 +8,22 @@ use Rattle.keys.proofs.pieces.Pieces.push_whole.Goals as goal
 pub invariant_of-self : goal.invariant_of-self
 invariant_of-self g c =
     let inside = c.self.inside in
-    first_within inside.first inside.rest.items inside.rest.items inside.rowless.items c.args.piece c.self.invariant c.if-is_none.ensures
+    first_within inside.first inside.rest.items inside.rest.items inside.empty_scans.items c.args.piece c.self.invariant c.if-is_none.ensures
     (nil_from_length inside.rest.items (omega (arith, eqb-true (vec_len inside.rest) 0 (sym c.if-is_empty.ensures))))
 
 pub returns-then-is_empty-clause-ok : goal.returns-then-is_empty-clause-ok
 returns-then-is_empty-clause-ok g c =
     let inside = c.self.inside in
     rw (← c.self.view_is)
-    (first_pushed inside.first inside.rest.items inside.rest.items inside.rowless.items c.args.piece c.self.invariant c.if-is_none.ensures
+    (first_pushed inside.first inside.rest.items inside.rest.items inside.empty_scans.items c.args.piece c.self.invariant c.if-is_none.ensures
     (nil_from_length inside.rest.items (omega (arith, eqb-true (vec_len inside.rest) 0 (sym c.if-is_empty.ensures)))))
 
 pub invariant_of-self-2 : goal.invariant_of-self-2
 invariant_of-self-2 g c =
     let inside = c.self.inside in
-    rest_within inside.first inside.rest.items c.push.new.self.items inside.rowless.items c.args.piece c.self.invariant c.in_ok-push.ensures.items
+    rest_within inside.first inside.rest.items c.push.new.self.items inside.empty_scans.items c.args.piece c.self.invariant c.in_ok-push.ensures.items
 
 pub returns-clause-ok : goal.returns-clause-ok
 returns-clause-ok g c =
     let inside = c.self.inside in
-    rw (← c.self.view_is) (rest_pushed inside.first inside.rest.items c.push.new.self.items inside.rowless.items c.args.piece c.self.invariant c.in_ok-push.ensures.items)
+    rw (← c.self.view_is) (rest_pushed inside.first inside.rest.items c.push.new.self.items inside.empty_scans.items c.args.piece c.self.invariant c.in_ok-push.ensures.items)

@@ -1,9 +1,9 @@
 use Rattle.std.proofs.Common.{ap, ◌∙◌}
 use Rattle.keys.specs.Bytes.{Bytes}
-use Rattle.delta_chain.specs.Late.{Late}
+use Rattle.delta_chain.specs.Lazy.{Lazy}
 use Rattle.index_page.specs.InMemory.{InMemory}
 use Rattle.index_page.specs.InMemory.InMemory.{LeafInMemory}
-use Rattle.page_runs.specs.LeafWork.{leaf_worked}
+use Rattle.page_runs.specs.LeafWork.{leaf_updated}
 use Rattle.page_runs.proofs.LeafMade.{done_made, made_in_memory}
 use Rattle.page_runs.proofs.LeafAfter.{fewest_late, most_late}
 use Rattle.page_runs.proofs.leaf_work.LeafWorkWork.work.Goals as goal
@@ -18,7 +18,7 @@ bound-requires-clause-most c = most_late c.args.self.now.settings c.into_leaf-lo
 pub returns-in-Ok-put_leaf_run-clause-made : goal.returns-in-Ok-put_leaf_run-clause-made
 returns-in-Ok-put_leaf_run-clause-made c =
     done_made c.boxed.result _ _ c.boxed.ensures.done
-    (ap (λ (p : InMemory). (leaf_worked p c.in-Ok-put_leaf_run.way_back c.args.job.page_run c.in-Ok.pieces).made) (c.leaf.ensures ∙ ap (λ (l : Late Bytes). LeafInMemory c.into_leaf-low.result.0 l) c.bound.ensures)
+    (ap (λ (p : InMemory). (leaf_updated p c.in-Ok-put_leaf_run.way_back c.args.job.page_run c.in-Ok.pieces).made) (c.leaf.ensures ∙ ap (λ (l : Lazy Bytes). LeafInMemory c.into_leaf-low.result.0 l) c.bound.ensures)
     ∙ made_in_memory c.args.self.now.settings c.args.self.now.commands.now c.args.job.page_run c.into_leaf-low.result.0 c.into_leaf-low.result.1 c.in-Ok-put_leaf_run.chain c.in-Ok-put_leaf_run.way_back
     c.args.job.page c.whole.result.now c.places.result.now c.in-Ok.run' c.in-Ok.pieces
     c.into_leaf-low.ensures c.whole.ensures c.places.ensures.value c.in-Ok.ensures.run c.in-Ok.ensures.pieces

@@ -1,5 +1,5 @@
 use Rattle.std.proofs.Common.{None}
-use Rattle.delta_chain.specs.Late.{seen}
+use Rattle.delta_chain.specs.Lazy.{seen}
 use Rattle.scan.proofs.BackRows.{late_before, last_leaf_left}
 use Rattle.scan.proofs.back.rows.last_pair.Goals as goal
 

@@ -1,6 +1,6 @@
 use Rattle.std.proofs.Common.{sym, ap, ◌∙◌, ℕ, List}
 use Rattle.delta_chain.specs.Layers.{Layers, entries_of}
-use Rattle.delta_chain.proofs.LateLemmas.{entries-seen}
+use Rattle.delta_chain.proofs.LazyLemmas.{entries-seen}
 use Rattle.index_page.specs.InMemory.{InMemory, page_shown}
 use Rattle.index_page.specs.Page.{entries, leaf_of}
 use Rattle.split_plan.proofs.kind.ValueGlobalKind.chain.Goals as goal

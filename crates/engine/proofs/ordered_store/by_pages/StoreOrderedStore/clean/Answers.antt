@@ -14,10 +14,10 @@ returns-clause-durable g c fine honest =
     c.clean.result (e.bytes honest)
 
 pub returns-clause-crash : goal.returns-clause-crash
-returns-clause-crash g c fine settled =
+returns-clause-crash g c fine is_synced =
     let e = c.clean.ensures in
-    clean-crash g.D.Disk.view g.D.Disk.failed c.args.self.now c.clean.new.self c.args.crew c.a_clean_keeps_the_store.ensures.disk e.sound.0 fine settled
-    (e.crash fine settled)
+    clean-crash g.D.Disk.view g.D.Disk.failed c.args.self.now c.clean.new.self c.args.crew c.a_clean_keeps_the_store.ensures.disk e.sound.0 fine is_synced
+    (e.crash fine is_synced)
 
 pub returns-clause-state : goal.returns-clause-state
 returns-clause-state g c honest =

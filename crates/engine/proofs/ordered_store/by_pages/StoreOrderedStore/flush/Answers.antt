@@ -1,7 +1,7 @@
 use Rattle.flush_log.specs.AfterFlush.{after_flush}
 use Rattle.flush_log.specs.FlushText.{HasFrames}
-use Rattle.flush_log.specs.declared.text.Text.TheVariants as texts
-use Rattle.engine.proofs.ClaimWritten.{flush-settled, written-contents, written-crash, written-durable, written-fails, written-state}
+use Rattle.flush_log.specs.declared.text.CommitKind.TheVariants as texts
+use Rattle.engine.proofs.ClaimWritten.{flush-is_synced, written-contents, written-crash, written-durable, written-fails, written-state}
 use Rattle.engine.proofs.ordered_store.by_pages.StoreOrderedStore.flush.Goals as goal
 
 pub returns-clause-contents : goal.returns-clause-contents
@@ -16,17 +16,17 @@ returns-clause-durable g c honest =
     written-durable after_flush (λ s st. HasFrames s (texts.Flush st.version) st.tree) c.what_was_flushed_is_what_is_read.ensures.tree g.D.Disk.view c.args.self.now c.flush.new.self e.sound.0
     c.what_was_flushed_is_what_is_read.ensures.read c.flush.result e.failed honest (e.bytes honest) e.frames
 
-pub returns-clause-settled : goal.returns-clause-settled
-returns-clause-settled g c settled =
+pub returns-clause-is_synced : goal.returns-clause-is_synced
+returns-clause-is_synced g c is_synced =
     let e = c.flush.ensures in
-    flush-settled g.D.Disk.view c.args.self.now c.flush.new.self c.args.crew settled c.flush.result e.failed e.bad_crew e.nothing (e.settled settled.honest)
+    flush-is_synced g.D.Disk.view c.args.self.now c.flush.new.self c.args.crew is_synced c.flush.result e.failed e.bad_crew e.nothing (e.is_synced is_synced.honest)
 
 pub returns-clause-crash : goal.returns-clause-crash
-returns-clause-crash g c fine settled =
+returns-clause-crash g c fine is_synced =
     let e = c.flush.ensures in
     written-crash after_flush (λ s st. HasFrames s (texts.Flush st.version) st.tree) c.what_was_flushed_is_what_is_read.ensures.tree g.D.Disk.view c.args.self.now c.flush.new.self e.sound.0
-    c.what_was_flushed_is_what_is_read.ensures.read fine settled (g.met.D.Disk.lawful c.args.self.now.disk settled.honest)
-    c.flush.result e.frames e.frames_under_way e.unchanged (e.crash fine settled)
+    c.what_was_flushed_is_what_is_read.ensures.read fine is_synced (g.met.D.Disk.lawful c.args.self.now.disk is_synced.honest)
+    c.flush.result e.frames e.frames_under_way e.unchanged (e.crash fine is_synced)
 
 pub returns-clause-state : goal.returns-clause-state
 returns-clause-state g c honest =

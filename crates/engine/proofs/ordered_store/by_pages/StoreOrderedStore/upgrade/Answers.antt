@@ -1,6 +1,6 @@
 use Rattle.flush_log.specs.AfterFlush.{after_upgrade}
 use Rattle.flush_log.specs.FlushText.{HasFrames}
-use Rattle.flush_log.specs.declared.text.Text.TheVariants as texts
+use Rattle.flush_log.specs.declared.text.CommitKind.TheVariants as texts
 use Rattle.engine.proofs.ClaimWritten.{written-contents, written-crash, written-durable, written-fails, written-state}
 use Rattle.engine.proofs.ordered_store.by_pages.StoreOrderedStore.upgrade.Goals as goal
 
@@ -17,11 +17,11 @@ returns-clause-durable g c honest =
     c.what_was_upgraded_is_what_is_read.ensures.read c.upgrade.result e.failed honest (e.bytes honest) e.frames
 
 pub returns-clause-crash : goal.returns-clause-crash
-returns-clause-crash g c fine settled =
+returns-clause-crash g c fine is_synced =
     let e = c.upgrade.ensures in
     written-crash after_upgrade (λ s st. HasFrames s texts.Upgrade st.tree) c.what_was_upgraded_is_what_is_read.ensures.tree g.D.Disk.view c.args.self.now c.upgrade.new.self e.sound.0
-    c.what_was_upgraded_is_what_is_read.ensures.read fine settled (g.met.D.Disk.lawful c.args.self.now.disk settled.honest)
-    c.upgrade.result e.frames e.frames_under_way e.unchanged (e.crash fine settled)
+    c.what_was_upgraded_is_what_is_read.ensures.read fine is_synced (g.met.D.Disk.lawful c.args.self.now.disk is_synced.honest)
+    c.upgrade.result e.frames e.frames_under_way e.unchanged (e.crash fine is_synced)
 
 pub returns-clause-state : goal.returns-clause-state
 returns-clause-state g c honest =

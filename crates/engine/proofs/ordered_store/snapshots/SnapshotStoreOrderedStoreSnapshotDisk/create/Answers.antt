@@ -8,5 +8,5 @@ returns-in-Ok-clause-durable c honest =
     (ap snapshot_of c.in-Ok.ensures.seen ∙ held-read (Some c.new.result) ∙ ap Some c.new.ensures, record { honest = honest; only = λ f same. same })
 
 pub returns-in-Ok-clause-crash : goal.returns-in-Ok-clause-crash
-returns-in-Ok-clause-crash c settled =
+returns-in-Ok-clause-crash c is_synced =
     leaves-more (view_of c.args.disk) (view_of c.keep.new.self) _ _ (λ f left. ⊎_elim inl (λ e. inr (inr (e ∙ ap Some c.new.ensures))) left) c.keep.ensures.crash

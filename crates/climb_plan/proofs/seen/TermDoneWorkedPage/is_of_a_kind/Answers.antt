@@ -1,5 +1,0 @@
-use Rattle.climb_plan.proofs.BridgePieces.{index_pages_are_kind}
-use Rattle.climb_plan.proofs.seen.TermDoneWorkedPage.is_of_a_kind.Goals as goal
-
-pub returns : goal.returns
-returns c = index_pages_are_kind

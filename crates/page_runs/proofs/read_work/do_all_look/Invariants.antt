@@ -1,9 +1,0 @@
-use Rattle.std.proofs.Common.{◌≡◌, drop}
-use Rattle.std.specs.List.{list_all}
-use Rattle.page_runs.specs.Reads.{is_look}
-use Rattle.page_runs.specs.Replies.{commands_at}
-use Rattle.page_runs.proofs.read_work.do_all_look.Given as goal
-
--- all commands only read if and only if the remaining ones do
-abbrev pub invariant-loop-place : goal.invariant-loop-place
-invariant-loop-place l = list_all is_look (commands_at l.commands (drop l.place-index l.places)) ≡ list_all is_look (commands_at l.commands l.places)
