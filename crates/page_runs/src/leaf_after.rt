@@ -69,7 +69,7 @@ pub(crate) fn put_leaf_run(
     }
     let must_replace = must_replace_leaf(settings, &page, &run);
     // Only for the proof: no more runs count as merged than there are.
-    let _settled = page.merged_runs();
+    let _merged_runs = page.merged_runs();
     let mut page = page;
     match page.prepend(run) {
         Err((_refused, _run)) => Err(page),
