@@ -18,9 +18,9 @@ use Rattle.bwsh.specs.declared.session.SessionError.{SessionError}
 use Rattle.bwsh.specs.declared.session.SessionError.TheVariants.{Device}
 use Rattle.bwsh.specs.declared.session.SessionError.TheVariants as errors
 use Rattle.bwsh.specs.Output.{BeginsWith, Writes}
-use Rattle.bwsh.specs.Session.{LeavesStored, MayFail, RunsAlone, RunsOrder, Seen, Stored, after_order, left_unless, map_after, map_unless, own_lines, refusal_of}
+use Rattle.bwsh.specs.Session.{CanBeDone, LeavesStored, MayFail, RunsAlone, RunsOrder, Seen, Stored, after_order, left_unless, map_after, map_unless, own_lines, refusal_of}
 use Rattle.bwsh.proofs.Prints.{flat-append, front-longer, front-more}
-use Rattle.bwsh.proofs.RunLemmas.{PrintsOwn-writes, bare_printed, failing, none_in_front, refused, seen_failing, seen_untidied, untidied_before}
+use Rattle.bwsh.proofs.RunLemmas.{PrintsOwn-writes, bare_printed, cut_off, failing, none_in_front, refused, seen_failing, seen_untidied, untidied_before}
 
 -- the order leaves a store as it is, and is refused by no store
 abbrev pub IsStill : Order → Type 0
@@ -121,11 +121,11 @@ module _ (mode : Mode) (honest : Bool) (settings : Settings) (st : Store) (left 
     }
 
     -- it is done, and its lines are written
-    pub RunsOrder-still : (old new : Option Bytes) (end : Result (Unit {0}) SessionError) → Writes old new (own_lines settings st (failing None left) (contents st.tree) order) end
+    pub RunsOrder-still : CanBeDone settings (st, left) order → (old new : Option Bytes) (end : Result (Unit {0}) SessionError) → Writes old new (own_lines settings st (failing None left) (contents st.tree) order) end
         → RunsOrder mode honest settings st left order old new end st left
-    RunsOrder-still old new end written = (
+    RunsOrder-still can old new end written = (
       failing None left,
-      seen_untidied mode honest settings st left order (λ is. absurd (not_flush order still is)),
+      seen_untidied mode honest settings st left order (λ is. absurd (not_flush order still is)) can,
       RunsAlone-done mode.stream settings st (failing None left) order old new end refl (still_refusal settings st None left order still) written,
       λ other. leaves_still None,
     )
@@ -142,8 +142,14 @@ module _ (mode : Mode) (honest : Bool) (settings : Settings) (st : Store) (left 
     )
 
     -- a device fails, and nothing is written
-    pub RunsOrder-cut : (old : Option Bytes) → RunsOrder mode honest settings st left order old old (Err Device) st left
-    RunsOrder-cut old = RunsOrder-still old old (Err Device) (inr (refl, ([], (flat (own_lines settings st (failing None left) (contents st.tree) order), refl), Appends-nil old)))
+    pub RunsOrder-cut : (old : Option Bytes) (fault : Fault) → MayFail mode.clean_when_full settings (st, left) order fault → RunsOrder mode honest settings st left order old old (Err Device) st left
+    RunsOrder-cut old fault may = (
+      failing (Some fault) left,
+      seen_failing mode honest settings st left left order fault (λ is. absurd (not_flush order still is))
+          (subst (λ (at : Stored). MayFail mode.clean_when_full settings at order fault) (sym (untidied_before order settings (Some fault) left st)) may) (λ h. refl),
+      cut_off settings st (failing (Some fault) left) order mode.stream old old refl,
+      λ other. absurd (other refl),
+    )
 
 -- a batch that lost a line is refused
 pub RunsOrder-lost : (mode : Mode) (honest : Bool) (settings : Settings) (st : Store) (left : Bytes) (old : Option Bytes)
@@ -151,7 +157,7 @@ pub RunsOrder-lost : (mode : Mode) (honest : Bool) (settings : Settings) (st : S
 unfolding after_order refusal_of
 RunsOrder-lost mode honest settings st left old = (
   failing None left,
-  seen_untidied mode honest settings st left Lost (λ is. absurd (cc)),
+  seen_untidied mode honest settings st left Lost (λ is. absurd (cc)) tt,
   RunsAlone-refused mode.stream settings st (failing None left) Lost old NoMemory refl refl,
   λ other. record { store = refl; bytes = λ h. refl; holds = refl },
 )

@@ -1,4 +1,4 @@
--- Lemmas on answers that are written one after the other.
+-- Lemmas on answers that are written in sequence.
 use Rattle.std.proofs.Common.{◌≡◌, ◌<◌, ◌+◌, ℕ, length, drop, get_or, List, [], ◌∷◌, ◌++◌, map, Option, Result, Ok, Err, refl, sym, ap, ◌∙◌, subst, inl}
 use Rattle.std.specs.List.{flat_map}
 use Rattle.std.proofs.lemmas.List.{drop_more}
@@ -18,7 +18,7 @@ pub answers_left : (parsed : List code_answer.Answer) (i : ℕ) (a : code_answer
     → lines_of_answers (drop i parsed) ≡ shown_answer (answer_of a) ++ lines_of_answers (drop (i + 1) parsed)
 answers_left parsed i a h is = ap lines_of_answers (drop_more parsed i a h ∙ ap (λ (b : code_answer.Answer). b ∷ drop (i + 1) parsed) (sym is))
 
--- what is left to write, written after what stands there now, is what all of it writes after what stood there first
+-- writing the remaining answers after the current contents gives the same as writing all of them after the first contents
 abbrev pub WritesAfter : Option (List ℕ) → List (List ℕ) → Option (List ℕ) → List (List ℕ) → Type 0
 WritesAfter old all now left = (new : Option (List ℕ)) (end : Result (Unit {0}) SessionError) → Writes now new left end → Writes old new all end
 

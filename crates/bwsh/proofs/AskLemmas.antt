@@ -1,4 +1,4 @@
--- Lemmas on the answer to an order, from what is run of it.
+-- Lemmas on the answer to an order, derived from the steps that are run for it.
 use Rattle.std.proofs.Common.{◌≡◌, ◌⊎◌, inl, inr, List, [], ◌∷◌, ◌++◌, Option, Result, Ok, Err, refl, sym, ap, ◌∙◌, subst, append-nil}
 use Rattle.std.specs.Prelude.{Bool, true, IfSome, IsOkUnless, OnErr, OnOk, Some, None}
 use Rattle.std.specs.Io.KnownBytes.{Appends, Keeps}
@@ -23,14 +23,14 @@ use Rattle.bwsh.proofs.Prints.{front-longer}
 -- ---- a device fails
 
 module _ (mode : Mode) (honest : Bool) (settings : Settings) (st : Store) (left : Bytes) (orders : List Order) (old new : Option Bytes) (held : Pairs Bytes) where
-  -- before anything of these orders is done
+  -- before any of these orders has begun
   RunsOn-device : Appends old new [] → RunsOn mode honest settings st left orders old new (Err Device) held
   unfolding Runs
   RunsOn-device none =
       let (shown, are, p, map) = RunsOn-cut mode honest settings st left orders new Device (inr refl) held in
       (shown, are, Prints-then old new new [] none mode.stream _ _ (Err Device) p, tt)
 
-  -- or in the line of a fault in front of them
+  -- or while the line of a fault before them is written
   RunsTold-device : (told : Bytes) → IsBegun old new (fault_line told) → RunsTold told mode honest settings st left orders old new (Err Device) held
   unfolding RunsAfter
   RunsTold-device told (front, begins, a) =
@@ -52,13 +52,13 @@ module _ (mode : Mode) (honest : Bool) (settings : Settings) (st : Store) (left 
 
 -- ---- the answer to an order
 
--- what was written is handed on, or a device fails
+-- the written bytes are flushed to the device, or a device fails
 abbrev pub IsFlushed : Option Bytes → Option Bytes → Result (Unit {0}) SessionError → Result (Unit {0}) SessionError → Type 0
 IsFlushed mid new done end = Keeps mid new × ((end ≡ done) ⊎ (end ≡ Err Device))
 
 module _ (mode : Mode) (honest : Bool) (settings : Settings) (st : Store) (left : Bytes) (orders : List Order) (old : Option Bytes) (now : Store) (bytes : Bytes) where
   module _ (on : mode.stream ≡ true) (mid new : Option Bytes) where
-    -- nothing more is printed
+    -- no further output
     kept_nothing : Keeps mid new → Appends mid new []
     kept_nothing kept = Appends-kept mid mid new [] (Appends-nil mid) kept
 
@@ -109,7 +109,7 @@ module _ (mode : Mode) (honest : Bool) (settings : Settings) (st : Store) (left 
           let is : early ≡ Device = cc in
           (λ on. is, λ rest held. subst (λ (x : SessionError). RunsOn mode honest settings st left (orders ++ rest) old new (Err x) held) (sym is) (told_stops begun rest held))
 
--- a line that was written, and then what was written is handed on
+-- a line was written, and then the output was flushed to the device
 told_written : (old mid new : Option Bytes) (line : Bytes) (done end : Result (Unit {0}) SessionError) → Writes old mid (line ∷ []) done → IsFlushed mid new done end
     → ((end ≡ Ok tt) × Appends old new line) ⊎ ((end ≡ Err Device) × IsBegun old new line)
 told_written old mid new line done end (inl (e, a)) (kept, inl same) = inl (same ∙ e, Appends-kept old mid new line (subst (Appends old mid) (append-nil line) a) kept)
@@ -148,7 +148,7 @@ module _ (mode : Mode) (honest : Bool) (settings : Settings) (st : Store) (left 
           let so : early ≡ Device = cc in
           (λ on. so, subst (λ (x : SessionError). Stops mode honest settings st left orders old new x) (sym so) all_stop)
 
-  -- no order of a stream ends otherwise
+  -- an order of a stream has no other end
   pub RunsAsk-never : (early : SessionError) → (early ≡ Device → ⊥) → ((fault : Fault) → early ≡ errors.Fault fault → ⊥)
       → RunsFirst mode honest settings st left orders old mid (Err early) now bytes → ⊥
   RunsAsk-never early other none p = by early other none (subst (λ (b : Bool). RunsRefused b mode honest settings st left orders old mid early now bytes) on p)
@@ -159,16 +159,16 @@ module _ (mode : Mode) (honest : Bool) (settings : Settings) (st : Store) (left 
       by (errors.Fault fault) other none q = none fault refl
       by Device other none q = other refl
 
--- ---- a line that a clause can name
+-- ---- a line that a clause can give
 
--- a text is written whole, or the output fails in it
+-- a text is written completely, or the output fails in it
 pub Writes-one : (old new : Option Bytes) (text : Bytes) (end : Result (Unit {0}) SessionError) → OnOk end (Appends old new text) → OnErr end (IsBegun old new text) → IsOkUnless end Device
     → Writes old new (text ∷ []) end
 Writes-one old new text (Ok done) a begun is = inl (refl, subst (Appends old new) (sym (append-nil text)) a)
 Writes-one old new text (Err early) a (front, begins, b) is =
     inr (ap (λ (x : SessionError). Err x) is, (front, subst (λ (xs : Bytes). BeginsWith xs front) (sym (append-nil text)) begins, b))
 
--- the same of a text that there may be
+-- the same for an optional text
 pub Writes-some : (old new : Option Bytes) (text : Option Bytes) (end : Result (Unit {0}) SessionError) → OnOk end (IfSome text (Appends old new)) → OnErr end (IfSome text (IsBegun old new))
     → IsOkUnless end Device → IfSome text (λ line. Writes old new (line ∷ []) end)
 Writes-some old new None end a begun is = tt
@@ -176,7 +176,7 @@ Writes-some old new (Some line) end a begun is = Writes-one old new line end a b
 
 -- ---- how the answer to an order ends
 
--- what is printed of the end of an order of a stream, after what was printed of it
+-- the output for the end of an order of a stream, after the output of the order itself
 pub record IsEnded (old new : Option Bytes) (run end : Result (Unit {0}) SessionError) : Type 0 where
   pub done : run ≡ Ok tt → (end ≡ Ok tt) × (new ≡ old)
   pub fault : (fault : Fault) → run ≡ Err (errors.Fault fault) → (told : Bytes) × Writes old new (fault_line told ∷ []) end

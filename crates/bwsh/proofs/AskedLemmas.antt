@@ -1,4 +1,4 @@
--- What the words of the command line ask for is what `clap` finds in them, or why it refuses them.
+-- The meaning of the words of the command line is the result of `clap`, or its reason to refuse them.
 use Rattle.std.proofs.Common.{◌≡◌, ◌∙◌, ◌++◌, ◌||◌, ◌&&◌, ◌==◌, not, ap, refl, sym, subst, inl, inr, Bool, true, false, cond, List, [], ◌∷◌, map, Option, Some, None, Result, Ok, Err, IfErr, IsErrAnd, codes}
 use Rattle.std.specs.Prelude.{is_some, pos}
 use Rattle.std.specs.List.{fold, list_all, list_any}
@@ -29,14 +29,14 @@ built_disk = built_path (codes "disk")
 abbrev built_copy : Rule
 built_copy = built_path (codes "copy-to")
 
--- what stands after the options that take a number
+-- the options after those that take a number
 abbrev last_rules : List Rule
 last_rules = built_disk ∷ built_copy ∷ map built_flag flag_names ++ built_help ∷ []
 
 abbrev pub rules : List Rule
 rules = map built_number number_defaults ++ last_rules
 
--- these are what is found of the option by its name and by its id
+-- the results for the option, by its name and by its id
 abbrev IsKnownAs : Text → Option Rule → Option Rule → Type 0
 IsKnownAs name by_long by_id = (default : Text) × (by_long ≡ Some (built_number (name, default))) × (by_id ≡ Some (built_number (name, default)))
 
@@ -107,7 +107,7 @@ known_text name false is hit =
       ),
     ) name hit
 
--- none of the options that take nothing
+-- it is none of the options without a value
 none_of_flags : (name : Text) → takes_nothing name ≡ false → takes_path name ≡ false → bytes_eq (codes "help") name ≡ false
     → arg_by_long last_rules name ≡ None
 none_of_flags name none no_path no_help =
@@ -217,14 +217,14 @@ words_come_to : (words : List Text) → Comes (fault_of bwsh words) (rest_rows r
 words_come_to words =
     subst (λ (ks : Kinds). Comes ks (rest_rows rules (standing [] None idle false) words) (asked words)) (sym (faults_are words)) (words_come rules has_options words)
 
--- where nothing is wrong the words ask for what was given, and that is what is found
+-- if no word has a fault, the words ask for the given options, and these are the result
 pub options_are_asked : (words : List Text) (rows : List Row) → fault_of bwsh words ≡ [] → rows ≡ matches_of bwsh words
     → (given : Given) × (asked words ≡ options given) × (rows ≡ finished_rows given) × AreGivable given
 options_are_asked words rows none is_rows =
     let w = (from_asked words _ _ (asked words) refl (words_come_to words)).0 none in
     (w.0, w.1, is_rows ∙ rows_are words ∙ ap (λ (rs : List Row). fold with_default rs built_rules) w.2, w.3)
 
--- an error is lack of memory, or right for the words
+-- an error is a failed allocation, or is possible for the words
 pub error_is_right : (words : List Text) (e : Error) → HasKind (fault_of bwsh words) e → IsRightKind words (kind_of e)
 error_is_right words e (inl memory) = inl memory
 error_is_right words e (inr among) = (from_asked words _ _ (asked words) refl (words_come_to words)).1 (kind_of e) among

@@ -1,4 +1,4 @@
--- When the answers to orders don't depend on what the disk shows.
+-- When the answers to orders don't depend on the contents that the disk returns.
 use Rattle.std.proofs.Common.{◌≡◌, ◌⊎◌, ◌-◌, inl, inr, ℕ, zero, suc, List, [], ◌∷◌, ◌++◌, Option, Some, None, Result, Ok, Err, refl, sym, ap, ◌∙◌, subst}
 use Rattle.std.specs.Prelude.{⊤, Bool, true, false, is_some, if◌then◌else◌}
 use Rattle.std.specs.List.{All, AllByRecursion}
@@ -27,7 +27,7 @@ use Rattle.bwsh.proofs.RunLemmas.{of_flush, of_upgrade, answering, committed_unl
 
 -- ---- a step
 
--- all that a step answers and leaves but for the bytes
+-- the result and the store of a step, without the bytes
 abbrev without_bytes : Stepped Global → Result (Answer Global × Store) Fault
 without_bytes (Ok p) = Ok (p.0, p.1.0)
 without_bytes (Err fault) = Err fault
@@ -55,7 +55,7 @@ upgrade-same : (version : Version) (settings : Settings) (st : Store) (f g : Lis
 upgrade-same One settings st f g text = text-same of_upgrade settings st f g text
 upgrade-same Two settings st f g text = refl
 
--- why an order is refused by its right: its step is, or it is a lost one
+-- why an order is refused by definition: its step is, or it is a lost one
 own_or : (settings : Settings) (order : Order)
     → ((at : Stored) → own_refusal settings at order ≡ Some NoMemory) ⊎ ((at : Stored) → own_refusal settings at order ≡ refusal_of_step settings at (step_in order))
 own_or settings Lost = inl (λ at. refl)
@@ -75,7 +75,7 @@ left-same st f g (Ok p) (Err b) e = absurd (cc)
 left-same st f g (Err a) (Ok q) e = absurd (cc)
 
 module _ (settings : Settings) (st : Store) (f g : List ℕ) where
-  -- what the step of an order leaves with these bytes
+  -- the result of the step of an order with these bytes
   abbrev stepped : List ℕ → Step Global → Stepped Global
   stepped file y = after_step (batching settings) settings st file y
 
@@ -97,14 +97,14 @@ module _ (settings : Settings) (st : Store) (f g : List ℕ) where
   step-same None same = (refl, refl)
   step-same (Some y) same = left-same st f g (stepped f y) (stepped g y) (same y refl)
 
-  -- an order that is no clean is refused for the same reason, and its step leaves the same store
+  -- an order that is no clean is refused for the same reason, and its step gives the same store
   refusal-same : (order : Order) → IsNoClean order → refusal_of_step settings (st, f) (step_in order) ≡ refusal_of_step settings (st, g) (step_in order)
   refusal-same order only = (step-same (step_in order) (order-same order only)).1
 
   stored-same : (order : Order) → IsNoClean order → (left_by_step settings (st, f) (step_in order)).0 ≡ (left_by_step settings (st, g) (step_in order)).0
   stored-same order only = (step-same (step_in order) (order-same order only)).0
 
--- an order that is no clean is refused for the same reason by its right
+-- an order that is no clean is refused for the same reason by definition
 own_refusal-same : (settings : Settings) (st : Store) (f g : List ℕ) (order : Order) → IsNoClean order → own_refusal settings (st, f) order ≡ own_refusal settings (st, g) order
 own_refusal-same settings st f g order only = by (own_or settings order)
   where
@@ -113,13 +113,13 @@ own_refusal-same settings st f g order only = by (own_or settings order)
     by (inl lost) = lost (st, f) ∙ sym (lost (st, g))
     by (inr step) = step (st, f) ∙ refusal-same settings st f g order only ∙ sym (step (st, g))
 
--- cleans leave the same store, whatever the bytes are in front of them
+-- cleans give the same store, whatever the bytes before them are
 cleaned-same : (settings : Settings) (reads : List (List ℕ)) (st : Store) (f g : List ℕ) → (cleaned_by settings reads (st, f)).0 ≡ (cleaned_by settings reads (st, g)).0
 cleaned-same settings [] st f g = refl
 cleaned-same settings (file ∷ reads) st f g = refl
 
 module _ (settings : Settings) (st : Store) (f g : Seen) where
-  -- what is readied for an order is the same store, where it is tidied and cleaned in the same way
+  -- the store that was prepared for an order is the same, if it is tidied and cleaned in the same way
   readied-same : (order : Order) → f.tidying ≡ g.tidying → f.rows ≡ g.rows → f.merged ≡ g.merged → (readied order settings f (st, f.bytes)).0 ≡ (readied order settings g (st, g.bytes)).0
   readied-same Flush tidying rows merged =
       ap (λ (t : Tidying). (cleaned_by settings (reads_in f.rows) (tidied settings t (st, f.bytes))).0) tidying
@@ -128,7 +128,8 @@ module _ (settings : Settings) (st : Store) (f g : Seen) where
   readied-same (Tidy most) tidying rows merged = ap (λ (b : Batches). (tidied settings (by_batches b) (st, f.bytes)).0) merged
   readied-same _ tidying rows merged = refl
 
-  -- an order that is no clean leaves the same store, where the same store is readied for it and it fails in the same way, and is refused for the same reason
+  -- an order that is no clean gives the same store, if the same store is prepared for it and it fails in the same way; and it is refused for the same
+  -- reason
   same_by : (order : Order) → (readied order settings f (st, f.bytes)).0 ≡ (readied order settings g (st, g.bytes)).0 → f.fails ≡ g.fails → IsNoClean order
       → ((after_order settings st f order).0 ≡ (after_order settings st g order).0) × (refusal_of settings st f order ≡ refusal_of settings st g order)
   unfolding after_order refusal_of
@@ -149,12 +150,12 @@ module _ (settings : Settings) (st : Store) (f g : Seen) where
       → ((after_order settings st f order).0 ≡ (after_order settings st g order).0) × (refusal_of settings st f order ≡ refusal_of settings st g order)
   after_order-same tidying rows merged fails order only = same_by order (readied-same order tidying rows merged) fails only
 
-  -- with the same rows of cleans in front of it there are the same lines
+  -- with the same rows of cleans before it, the lines are the same
   front-same : (order : Order) → f.rows ≡ g.rows → front_lines st f order ≡ front_lines st g order
   front-same Flush rows = ap (λ (r : List CleanRow). head_lines st.head (count_of r)) rows
   front-same _ rows = refl
 
-  -- where it leaves the same store, it answers the same
+  -- if it gives the same store, its answers are the same
   pub own-same : (m : List (List ℕ × List ℕ)) (order : Order) → (after_order settings st f order).0 ≡ (after_order settings st g order).0 → own_lines settings st f m order ≡ own_lines settings st g m order
   own-same m Flush same = ap (λ (s : Store). shown_flushed s.sequence ∷ []) same
   own-same m Clean same = ap (λ (s : Store). shown_cleaned s.head ∷ []) same
@@ -164,7 +165,7 @@ module _ (settings : Settings) (st : Store) (f g : Seen) where
 
 -- ---- orders
 
--- what is seen is the same where all of its parts are
+-- the events are the same if all of their parts are
 seen_is : (a b : Seen) → a.bytes ≡ b.bytes → a.tidying ≡ b.tidying → a.rows ≡ b.rows → a.last ≡ b.last → a.merged ≡ b.merged → a.fails ≡ b.fails → a.told ≡ b.told → a ≡ b
 seen_is a b bytes tidying rows last merged fails told =
     ap (λ (x : List ℕ). (let s : Seen = record a { bytes = x } in s)) bytes
@@ -176,7 +177,7 @@ seen_is a b bytes tidying rows last merged fails told =
     ∙ ap (λ (x : List ℕ). (let s : Seen = record b { told = x } in s)) told
 
 module _ (settings : Settings) where
-  -- each of the orders leaves the same store, and is refused for the same reason, whichever of the two the disk shows
+  -- each of the orders gives the same store, and is refused for the same reason, with either contents of the disk
   abbrev AreAlike : Store → Reads → Reads → List Order → Type 0
   AreAlike st shown other [] = ⊤
   AreAlike st shown other (order ∷ rest) =
@@ -215,7 +216,7 @@ module _ (settings : Settings) where
   end-alike true st shown other orders alike = refl
   end-alike false st shown other orders alike = ap (λ (r : Option Fault). stopped_by (option_map (λ fault. errors.Fault fault) r)) (refusal-alike st shown other orders alike)
 
-  -- what is told of refusals is the same
+  -- the reported faults of refusals are the same
   abbrev AreTold : Reads → Reads → Type 0
   AreTold shown other = (i : ℕ) → (shown i).told ≡ (other i).told
 
@@ -237,7 +238,7 @@ module _ (settings : Settings) where
       ∙ ap (λ (o : Option Fault). answer_then on o (shown 0).told before own (answered on settings next (later other) (map_unless o m order) rest)) refused
       ∙ ap (λ (t : List ℕ). answer_then on q t before own (answered on settings next (later other) (map_unless q m order) rest)) (told 0)
 
-  -- so it is where none is a clean
+  -- this holds if none is a clean
   alike-without_cleans : (st : Store) (shown other : Reads) → AreSeenAlike shown other → (orders : List Order) → AllByRecursion IsNoClean orders → AreAlike st shown other orders
   alike-without_cleans st shown other alike [] only = tt
   alike-without_cleans st shown other alike (order ∷ rest) only =
@@ -286,7 +287,7 @@ module _ (settings : Settings) (st : Store) (shown other : Reads) (alike : AreSe
     pub end-same : (on : Bool) → orders_end on settings st shown orders ≡ orders_end on settings st other orders
     end-same on = end-alike settings on st shown other orders same_orders
 
-  -- the disk shows what was left
+  -- the disk returns the bytes that were left
   module _ (file : List ℕ) (orders : List Order) (left : AreLeft settings st file shown orders) (left_too : AreLeft settings st file other orders) where
     left_orders : AreAlike settings st shown other orders
     left_orders = alike-left settings st file shown other alike orders left left_too
@@ -303,7 +304,7 @@ module _ (settings : Settings) (st : Store) (shown other : Reads) (alike : AreSe
     pub end-left : (on : Bool) → orders_end on settings st shown orders ≡ orders_end on settings st other orders
     end-left on = end-alike settings on st shown other orders left_orders
 
--- ---- reads of a disk that shows what was left
+-- ---- reads of a disk that returns the bytes that were left
 
 abbrev shown_left : Settings → Store → List ℕ → List Order → Reads
 shown_left settings st file [] = λ i. untidied file

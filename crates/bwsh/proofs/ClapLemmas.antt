@@ -15,7 +15,7 @@ pub rule_added : (old new : Command) (a : Arg) (app : App) (rule : Rule) → Add
     → app_of new ≡ with_rule app rule
 rule_added old new a app rule added local is_app is_rule = added.shape local ∙ ap₂ with_rule is_app is_rule
 
--- all arguments of a list are added where none is left
+-- all arguments of a list are added if none is left
 pub all_added : {X : Type 0} (rule : X → Rule) (xs : List X) (i : ℕ) (app all : App) → fold with_rule app (map rule (drop i xs)) ≡ all → length xs ≤ i → app ≡ all
 all_added rule xs i app all is past = ap (λ (l : List _). fold with_rule app (map rule l)) (sym (drop_all i xs past)) ∙ is
 
@@ -25,7 +25,7 @@ bwsh_is_simple = refl
 pub bwsh_is_simple_and_free : is_simple_and_free bwsh ≡ true
 bwsh_is_simple_and_free = refl
 
--- the command that takes no program's name
+-- the command that expects no program name
 pub unnamed : (made shown plain : App) → plain ≡ on_top (λ s. record s { no_binary_name = true }) shown → shown ≡ made → made ≡ new_app (codes "bwsh")
     → plain ≡ plain_bwsh
 unnamed made shown plain is_plain is_shown is_new = is_plain ∙ ap (on_top (λ s. record s { no_binary_name = true })) (is_shown ∙ is_new)

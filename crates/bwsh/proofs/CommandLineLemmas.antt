@@ -1,4 +1,4 @@
--- The words of the command line come to what `clap` makes of them.
+-- The result of parsing the words of the command line is the result of `clap`.
 use Rattle.std.proofs.Common.{◌≡◌, ◌∙◌, ◌++◌, ap, refl, sym, subst, Bool, true, false, cond, List, [], ◌∷◌, map, Option, Some, None, append-nil}
 use Rattle.std.specs.Prelude.{nat_lt}
 use Rattle.std.specs.List.{fold}
@@ -19,7 +19,7 @@ use Rattle.bwsh.specs.CommandLine.{AreGivable, IsGivable, given_row, reading_at}
 use Rattle.bwsh.proofs.FoundLemmas.{at_row-missing}
 use Rattle.bwsh.proofs.TurnLemmas.{HasOptions, HasText, Pending, TurnIs, given_fault, given_rows, held, not_flag_text, or_else-assoc, or_else-last, or_else-none, shape, standing, turn_is, use_is, used_is}
 
--- the rows of what was given
+-- the rows of the given options
 abbrev pub rows_of_given : Given → List Row
 rows_of_given = map given_row
 
@@ -27,7 +27,7 @@ rows_of_given = map given_row
 abbrev pub Refuses : Kinds → Type 0
 Refuses kinds = (kind : ErrorKind) × (kinds ≡ kind ∷ []) × (is_refusal kind ≡ true)
 
--- a parse with these faults and rows is what the words come to
+-- a parse with these faults and rows has this result
 abbrev pub Comes : Kinds → List Row → Asked → Type 0
 Comes kinds rows (options given) = (kinds ≡ []) × (rows ≡ rows_of_given given) × AreGivable given
 Comes kinds rows help = kinds ≡ DisplayHelp ∷ []
@@ -72,7 +72,7 @@ use_by fault after name text given later rows_later next right all has is_fault 
     let with_rows = subst (λ (rs : List Row). Comes (later rs) (rows_later rs) (next more)) (sym (is_after new)) is_right in
     subst (λ (ks : Kinds). Comes (or_else ks (later after)) (rows_later after) (next more)) (sym none) with_rows
 
--- an option is given a text, and what comes later is right for what is given then
+-- an option gets a text, and the later words are right for the options given so far
 use_comes : (name text : Text) (given : Given) (later : List Row → Kinds) (rows_later : List Row → List Row) (next : Given → Asked)
     → ((g : Given) → AreGivable g → Comes (later (rows_of_given g)) (rows_later (rows_of_given g)) (next g)) → AreGivable given → HasText name text
     → Comes (or_else (given_fault name text (rows_of_given given)) (later (given_rows name text (rows_of_given given))))
@@ -81,7 +81,7 @@ use_comes name text given later rows_later next right all has =
     use_by (given_fault name text (rows_of_given given)) (given_rows name text (rows_of_given given))
     name text given later rows_later next right all has (fault_is name text given) (rows_are name text given) (is_given name given) (fits name text) refl refl
 
--- ---- the option that was given last is used late
+-- ---- the last given option is handled late
 
 -- the option with its text, if there is one that clap has not used yet
 abbrev pub Late : Type 0
@@ -95,7 +95,7 @@ abbrev pub IsKnown : Late → Type 0
 IsKnown None = Unit {0}
 IsKnown (Some p) = takes_text p.0 ≡ true
 
--- what the words come to after it
+-- the result of the words after it
 abbrev pub taken_late : Late → Given → (Given → Asked) → Asked
 taken_late None given next = next given
 taken_late (Some p) given next = taken p.0 p.1 given next
@@ -144,11 +144,11 @@ module _ (c : List Rule) (facts : HasOptions c) where
       subst (λ (ks : Kinds). Comes (or_else ks (later (used_by_id (arg_by_id c p.0) (p.1 ∷ []) rows))) (rows_later (used_by_id (arg_by_id c p.0) (p.1 ∷ []) rows)) (taken p.0 p.1 given next))
       (sym fault) with_rows
 
-  -- an option without its text
+  -- an option without text
   settle_waits : (name : Text) (rows : List Row) → takes_text name ≡ true → settle_fault c false (held rows (Some (name, []))) ≡ InvalidValue ∷ []
   settle_waits name rows is = subst (λ (o : Option Rule). option_map_or (λ a. use_fault false a [] rows) o [] ≡ InvalidValue ∷ []) (sym (facts.known name is).by_id) refl
 
-  -- a word that no option takes
+  -- a word that is no text of an option
   stray : (rows : List Row) (pen : Pending) → step_fault (shape c) 1 (held rows pen) value ≡ UnknownArgument ∷ []
   stray rows pen = subst (λ (o : Option Rule). option_map_or (λ a. positional_fault c false a (held rows pen)) o (UnknownArgument ∷ []) ≡ UnknownArgument ∷ [])
       (sym facts.positional) refl
@@ -187,7 +187,7 @@ module _ (c : List Rule) (facts : HasOptions c) where
 
   -- ---- word by word
 
-  -- the words come to this where no option waits for its text, and where one does
+  -- the result of the words when no option is waiting for its text, and when one is
   abbrev Idle : List Text → Type 0
   Idle words = (p : Late) (given : Given) → IsKnown p → AreGivable given
       → Comes (rest_fault c (standing (rows_of_given given) (late_pending p) idle false) words) (rest_rows c (standing (rows_of_given given) (late_pending p) idle false) words)
@@ -198,7 +198,7 @@ module _ (c : List Rule) (facts : HasOptions c) where
       → Comes (rest_fault c (standing (rows_of_given given) (Some (name, [])) (option name) false) words)
       (rest_rows c (standing (rows_of_given given) (Some (name, [])) (option name) false) words) (asked_from words (Some name) given)
 
-  -- after this turn the rest comes to this
+  -- after this turn, this is the result of the rest
   abbrev After : List Text → Asked → Kinds → Walk → Type 0
   After rest asked kinds after = Comes (or_else kinds (rest_fault c after rest)) (rest_rows c after rest) asked
 
@@ -248,7 +248,7 @@ module _ (c : List Rule) (facts : HasOptions c) where
       Refuses-late p given _ _ (Refuses-first kinds (rest_fault c after rest) (UnknownArgument, t.0 ∙ stray (rows_of_given given) (late_pending p), refl))
   idle_step word rest idle_rest waits_rest p given known all unknown kinds after t = Refuses-late p given _ _ (Refuses-first kinds (rest_fault c after rest) t)
 
-  -- a flag where a text is due
+  -- a flag in the place of a text
   flag_due : (name : Text) (rows : List Row) (kinds more next : Kinds) → takes_text name ≡ true → kinds ≡ or_else (settle_fault c false (held rows (Some (name, [])))) more
       → Refuses (or_else kinds next)
   flag_due name rows kinds more next is same =
@@ -287,6 +287,6 @@ module _ (c : List Rule) (facts : HasOptions c) where
         (turn_is c facts (rows_of_given given) (Some (name, [])) (option name) word)),
   )
 
-  -- what the words come to is what `clap` makes of them
+  -- the result of the words is the result of `clap`
   pub words_come : (words : List Text) → Comes (rest_fault c (standing [] None idle false) words) (rest_rows c (standing [] None idle false) words) (asked_from words None [])
   words_come words = (both_come words).0 None [] tt (All-nil IsGivable)

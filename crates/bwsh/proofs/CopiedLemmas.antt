@@ -2,7 +2,7 @@
 use Rattle.std.proofs.Common.{◌≡◌, ◌⊎◌, inl, inr, Bool, false, List, [], ◌∷◌, ◌++◌, Option, Some, None, Result, Ok, Err, refl, sym, ap, ◌∙◌, subst, append-nil}
 use Rattle.std.specs.Io.KnownBytes.{Appends, Keeps}
 use Rattle.std.proofs.KnownBytes.{Appends-nil}
-use Rattle.std.specs.Prelude.{IsOkUnless, OnOk, OnErr}
+use Rattle.std.specs.Prelude.{IfSome, IsOkUnless, OnOk, OnErr}
 use Rattle.keys.specs.Bytes.{Bytes, Pairs}
 use Rattle.keys.specs.Lists.{flat}
 use Rattle.keys.specs.declared.fault.Fault.{Fault}
@@ -12,7 +12,7 @@ use Rattle.bwsh.specs.declared.session.SessionError.{SessionError}
 use Rattle.bwsh.specs.declared.session.SessionError.TheVariants.{Device}
 use Rattle.bwsh.specs.declared.session.SessionError.TheVariants as errors
 use Rattle.bwsh.specs.Output.{BeginsWith, IsBegun}
-use Rattle.bwsh.specs.Session.{CopiesTo, IsCopyEnd, IsEndAfter, Prints, PrintsCopied, PrintsOneText, device_line, end_copied}
+use Rattle.bwsh.specs.Session.{CopiesTo, IsCopyEnd, IsCopyMade, IsEndAfter, Prints, PrintsCopied, PrintsOneText, device_line, end_copied}
 use Rattle.bwsh.proofs.Prints.{Prints-asked, Prints-flushed, Prints-front, front-whole}
 
 -- how a session ends
@@ -54,21 +54,28 @@ pub end_copied-none : (right : End) → end_copied None right ≡ right
 end_copied-none (Ok done) = refl
 end_copied-none (Err early) = refl
 
--- what was printed before a copy was begun
-pub PrintsCopied-before : (copy : Option Settings) (m : Pairs Bytes) (on : Bool) (old new : Option Bytes) (lines : List Bytes) (right end : End) → Prints on old new lines right end
-    → PrintsCopied copy m on old new lines right end
-PrintsCopied-before None m on old new lines right end p = p
-PrintsCopied-before (Some settings) m on old new lines right end p =
-    (None, tt, subst (λ (r : End). Prints on old new lines r end) (sym (end_copied-none right)) p)
+-- what was printed by a session that ended before a copy was begun
+pub PrintsCopied-early : (copy : Option Settings) (m : Pairs Bytes) (on : Bool) (old new : Option Bytes) (lines : List Bytes) (right : End) (early : SessionError) → Prints on old new lines right (Err early)
+    → PrintsCopied copy m on old new lines right (Err early)
+PrintsCopied-early None m on old new lines right early p = p
+PrintsCopied-early (Some settings) m on old new lines right early p =
+    (tt, None, tt, subst (λ (r : End). Prints on old new lines r (Err early)) (sym (end_copied-none right)) p)
+
+-- all is done, and the copy was made
+pub PrintsCopied-made : (copy : Option Settings) (m : Pairs Bytes) (on : Bool) (old new : Option Bytes) (lines : List Bytes) (right : End) (done : Unit {0}) → PrintsCopied copy m on old new lines right (Ok done)
+    → IfSome copy (λ settings. IsCopyMade settings m)
+PrintsCopied-made None m on old new lines right done p = tt
+PrintsCopied-made (Some settings) m on old new lines right done (made, refused, why, p) = made
 
 -- all is done, and there is no copy for this reason
 uncopied : (settings : Settings) (m : Pairs Bytes) (on : Bool) (old new : Option Bytes) (lines : List Bytes) (right : End) (done : Unit {0}) → Ok done ≡ right → Appends old new (flat lines)
     → (early : SessionError) → IsCopyEnd settings m early → PrintsCopied (Some settings) m on old new lines right (Err early)
 uncopied settings m on old new lines right done is a early (inl (fault, e, why)) =
-    (Some fault, inr why, inl (ap (λ (x : SessionError). Err x) e ∙ ap (end_copied (Some fault)) is, a))
+    (tt, Some fault, inr why, inl (ap (λ (x : SessionError). Err x) e ∙ ap (end_copied (Some fault)) is, a))
 uncopied settings m on old new lines right done is a early (inr (inl e)) =
-    (Some NoMemory, inl refl, inl (ap (λ (x : SessionError). Err x) e ∙ ap (end_copied (Some NoMemory)) is, a))
+    (tt, Some NoMemory, inl refl, inl (ap (λ (x : SessionError). Err x) e ∙ ap (end_copied (Some NoMemory)) is, a))
 uncopied settings m on old new lines right done is a early (inr (inr e)) = (
+  tt,
   None,
   tt,
   inr (inr (
@@ -81,7 +88,8 @@ uncopied settings m on old new lines right done is a early (inr (inr e)) = (
 PrintsCopied-after : (copy : Option Settings) (m : Pairs Bytes) (on : Bool) (old new : Option Bytes) (lines : List Bytes) (right : End) (done : Unit {0}) (end : End)
     → Prints on old new lines right (Ok done) → CopiesTo copy m end → PrintsCopied copy m on old new lines right end
 PrintsCopied-after None m on old new lines right done end p e = subst (λ (r : End). Prints on old new lines right r) (sym e) p
-PrintsCopied-after (Some settings) m on old new lines right done (Ok all) p e = PrintsCopied-before (Some settings) m on old new lines right (Ok all) p
+PrintsCopied-after (Some settings) m on old new lines right done (Ok all) p made =
+    (made, None, tt, subst (λ (r : End). Prints on old new lines r (Ok all)) (sym (end_copied-none right)) p)
 PrintsCopied-after (Some settings) m on old new lines right done (Err early) p e =
     let (is, a) = Prints-done on old new lines right done p in uncopied settings m on old new lines right done is a early e
 
@@ -95,20 +103,20 @@ pub PrintsCopied-left : (copy : Option Settings) (m held : Pairs Bytes) (on : Bo
 PrintsCopied-left copy m held on old new lines right (Ok done) end p same copies =
     PrintsCopied-after copy m on old new lines right done end p (subst (λ (map : Pairs Bytes). CopiesTo copy map end) same copies)
 PrintsCopied-left copy m held on old new lines right (Err early) end p same e =
-    PrintsCopied-before copy m on old new lines right end (subst (λ (r : End). Prints on old new lines right r) (sym e) p)
+    subst (λ (r : End). PrintsCopied copy m on old new lines right r) (sym e) (PrintsCopied-early copy m on old new lines right early p)
 
 -- nothing was appended first
 pub PrintsCopied-begun : (copy : Option Settings) (m : Pairs Bytes) (on : Bool) (old mid new : Option Bytes) → Appends old mid [] → (lines : List Bytes) (right end : End)
     → PrintsCopied copy m on mid new lines right end → PrintsCopied copy m on old new lines right end
 PrintsCopied-begun None m on old mid new none lines right end p = Prints-asked on old mid new none lines right end p
-PrintsCopied-begun (Some settings) m on old mid new none lines right end (refused, why, p) = (refused, why, Prints-asked on old mid new none lines (end_copied refused right) end p)
+PrintsCopied-begun (Some settings) m on old mid new none lines right end (made, refused, why, p) = (made, refused, why, Prints-asked on old mid new none lines (end_copied refused right) end p)
 
 -- the same is printed without the copy, and the end is that, or comes after all is done
 pub PrintsCopied-plain : (copy : Option Settings) (m : Pairs Bytes) (on : Bool) (old new : Option Bytes) (lines : List Bytes) (right end : End) → PrintsCopied copy m on old new lines right end
     → (plain : End) × Prints on old new lines right plain × IsEndAfter plain end
 PrintsCopied-plain None m on old new lines right end p = (end, p, inl refl)
-PrintsCopied-plain (Some settings) m on old new lines right end (refused, why, inr p) = (end, inr p, inl refl)
-PrintsCopied-plain (Some settings) m on old new lines right end (refused, why, inl (e, a)) = by right refused refl e
+PrintsCopied-plain (Some settings) m on old new lines right end (made, refused, why, inr p) = (end, inr p, inl refl)
+PrintsCopied-plain (Some settings) m on old new lines right end (made, refused, why, inl (e, a)) = by right refused refl e
   where
     by : (r : End) (f : Option Fault) → r ≡ right → end ≡ end_copied f r → (plain : End) × Prints on old new lines right plain × IsEndAfter plain end
     by (Err early) f is e = (Err early, inl (is, a), inl e)
@@ -127,7 +135,7 @@ PrintsCopied-other copy m on old new lines right end other p = by (PrintsCopied-
 pub PrintsCopied-front : (copy : Option Settings) (m : Pairs Bytes) (on : Bool) (old new : Option Bytes) (lines : List Bytes) (right end : End) → PrintsCopied copy m on old new lines right end
     → IsFront on old new lines
 PrintsCopied-front None m on old new lines right end p = Prints-front on old new lines right end p
-PrintsCopied-front (Some settings) m on old new lines right end (refused, why, p) = Prints-front on old new lines (end_copied refused right) end p
+PrintsCopied-front (Some settings) m on old new lines right end (made, refused, why, p) = Prints-front on old new lines (end_copied refused right) end p
 
 -- ---- one text
 

@@ -22,7 +22,7 @@ module _ (mode : Mode) (honest : Bool) (settings : Settings) (st : Store) (left 
   Copies early = RunsOrder mode honest settings st left (Copy path segments) old old (Err early) st left
 
   lapsed : (early : SessionError) → early ≡ errors.Device → Copies early
-  lapsed early e = subst Copies (sym e) (RunsOrder-cut mode honest settings st left (Copy path segments) tt old)
+  lapsed early e = subst Copies (sym e) (RunsOrder-cut mode honest settings st left (Copy path segments) tt old faults.Device (inr (inl refl)))
 
   -- no memory is found
   pub RunsOrder-unmade : (fault : Fault) → fault ≡ NoMemory → Copies (errors.Fault fault)

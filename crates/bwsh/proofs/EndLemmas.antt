@@ -30,8 +30,8 @@ use Rattle.bwsh.specs.declared.session.SessionError.TheVariants as errors
 use Rattle.bwsh.specs.BatchFile.{AreRead, IsReadError, first_bad, orders_in, parse_text}
 use Rattle.bwsh.specs.Options.{Given, Request, AsksFor, AsksForText, AsksToStream, AreRefused, IsRightKind, copy_of, is_refusal, request_by}
 use Rattle.bwsh.specs.Options.Asked.{options}
-use Rattle.bwsh.specs.Session.{Answers, AreLeft, AreReadOf, EndsBy, IsEndAfter, IsForWords, IsShown, IsStart, IsStartBy, IsUncopied, IsUnopened, Prints, PrintsOneText, Reads, Runs, RunsAll, RunsFrom, RunsOn, RunsRead, RunsRequest, Start, answered, end_from, found_start, lines_from, map_kept, map_kept_from, new_start, orders_end, session_orders, start_for_copy, start_unless_bad, status_of_end, stopped_by, first_refusal, untidied, version_text}
-use Rattle.bwsh.proofs.CopiedLemmas.{End, IsFront, IsLeft, OnOk-flushed, Prints-done, Prints-none, Prints-right, PrintsCopied-before, PrintsCopied-begun, PrintsCopied-front, PrintsCopied-left, PrintsCopied-other, PrintsCopied-plain}
+use Rattle.bwsh.specs.Session.{Answers, AreLeft, AreReadOf, EndsBy, IsCopyMade, IsEndAfter, IsForWords, IsShown, IsStart, IsStartBy, IsUncopied, IsUnopened, Prints, PrintsOneText, Reads, Runs, RunsAll, RunsFrom, RunsOn, RunsRead, RunsRequest, Start, answered, end_from, found_start, lines_from, map_kept, map_kept_from, new_start, orders_end, session_orders, start_for_copy, start_unless_bad, status_of_end, stopped_by, first_refusal, untidied, version_text}
+use Rattle.bwsh.proofs.CopiedLemmas.{End, IsFront, IsLeft, OnOk-flushed, Prints-done, Prints-none, Prints-right, PrintsCopied-begun, PrintsCopied-early, PrintsCopied-front, PrintsCopied-left, PrintsCopied-made, PrintsCopied-other, PrintsCopied-plain}
 use Rattle.bwsh.proofs.FirstLemmas.{RunsOn-cut}
 use Rattle.bwsh.proofs.LoopLemmas.{some_read}
 use Rattle.bwsh.proofs.Prints.{Prints-flushed}
@@ -192,8 +192,8 @@ module _ (request : Request) (parsed : List Line) (old : Option Bytes) where
       let ran : List Order = session_orders request parsed in (
         shown,
         (TidiesBy-none request.mode shown (λ i. refl), tt, tt, λ memory. tt),
-        PrintsCopied-before (copy_of request) (map_kept_from start shown ran) request.mode.stream old old (lines_from request.mode.stream start shown ran)
-            (end_from request.mode.stream start shown ran) (Err (errors.Fault fault)) (inl (refl, Appends-nil old)),
+        PrintsCopied-early (copy_of request) (map_kept_from start shown ran) request.mode.stream old old (lines_from request.mode.stream start shown ran)
+            (end_from request.mode.stream start shown ran) (errors.Fault fault) (inl (refl, Appends-nil old)),
       )
 
   -- a device fails before anything is run
@@ -205,8 +205,8 @@ module _ (request : Request) (parsed : List Line) (old : Option Bytes) where
       let ran : List Order = session_orders request parsed in (
         shown,
         (TidiesBy-none request.mode shown (λ i. refl), tt, tt, λ memory. tt),
-        PrintsCopied-before (copy_of request) (map_kept_from start shown ran) request.mode.stream old old (lines_from request.mode.stream start shown ran)
-            (end_from request.mode.stream start shown ran) (Err Device)
+        PrintsCopied-early (copy_of request) (map_kept_from start shown ran) request.mode.stream old old (lines_from request.mode.stream start shown ran)
+            (end_from request.mode.stream start shown ran) Device
             (Prints-none request.mode.stream old (lines_from request.mode.stream start shown ran) (end_from request.mode.stream start shown ran)),
       )
   RunsFrom-device (Ok p) =
@@ -407,7 +407,8 @@ IsDoneOn request old new text =
     (parsed : List Line) × AreRead (parse_text request.mode.stream text) parsed × (request.mode.stream ≡ false → first_bad 1 (parse_text false text) ≡ None)
     × ((start : Start) × IsStart request start × IsOk start × (shown : Reads) × IsShown request start shown (session_orders request parsed)
     × (end_from request.mode.stream start shown (session_orders request parsed) ≡ Ok tt)
-    × Appends old new (flat (lines_from request.mode.stream start shown (session_orders request parsed))))
+    × Appends old new (flat (lines_from request.mode.stream start shown (session_orders request parsed)))
+    × IfSome (copy_of request) (λ settings. IsCopyMade settings (map_kept_from start shown (session_orders request parsed))))
 
 -- a beginning of it is
 abbrev HasBegunOn : Request → Option Bytes → Option Bytes → Bytes → Type 0
@@ -437,7 +438,7 @@ module _ (request : Request) (known old new : Option Bytes) where
         parsed,
         got,
         λ plain. subst (λ (t : Bytes). first_bad 1 (parse_text false t) ≡ None) same (whole plain),
-        (start, is, start_ok request.mode.stream start shown _ done right, shown, is_shown, sym right, a),
+        (start, is, start_ok request.mode.stream start shown _ done right, shown, is_shown, sym right, a, PrintsCopied-made (copy_of request) _ request.mode.stream old new _ _ done p),
       ))
 
   -- an end that is none for memory, a device or a fault is that of a session whose lines weren't run

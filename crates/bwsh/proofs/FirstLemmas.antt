@@ -1,6 +1,6 @@
 -- Lemmas on orders that are run in front of others.
 use Rattle.std.proofs.Common.{◌≡◌, inl, inr, ℕ, zero, suc, List, [], ◌∷◌, Option, Some, None, Result, Ok, Err, refl, sym, ap, ◌∙◌, subst}
-use Rattle.std.specs.Prelude.{Bool, true, false, IfSome, IsTrue}
+use Rattle.std.specs.Prelude.{Bool, true, false, IsTrue}
 use Rattle.std.specs.Io.KnownBytes.{Appends}
 use Rattle.std.proofs.KnownBytes.{Appends-nil}
 use Rattle.keys.specs.Bytes.{Bytes, Pairs}
@@ -12,32 +12,35 @@ use Rattle.mapping.specs.Levels.{contents}
 use Rattle.mapping.specs.Tree.{Store}
 use Rattle.bwsh.specs.declared.options.asked.Mode.{Mode}
 use Rattle.bwsh.specs.declared.order.Order.{Order}
-use Rattle.bwsh.specs.declared.order.Order.TheVariants.{Flush, Help}
+use Rattle.bwsh.specs.declared.order.Order.TheVariants.{Copy, Flush, Help}
 use Rattle.bwsh.specs.declared.session.SessionError.{SessionError}
 use Rattle.bwsh.specs.declared.session.SessionError.TheVariants.{Bad, Device, Words}
 use Rattle.bwsh.specs.declared.session.SessionError.TheVariants as errors
 use Rattle.bwsh.specs.Output.{BeginsWith}
-use Rattle.bwsh.specs.Session.{AreCleaning, AreCleansOf, AreFailing, AreLeft, AreSeen, GoesOn, IsAsked, IsSeen, LeavesMap, LeavesStored, MayFail, Reads, Runs, RunsFirst, RunsOn, RunsOrder, RunsRefused, RunsTold, Seen, Stops, Stored, after_order, answered, device_line, map_unless, no_tidying, readied}
+use Rattle.bwsh.specs.Session.{AreCleaning, AreCleansOf, AreFailing, AreLeft, AreSeen, GoesOn, IsAsked, IsSeen, LeavesMap, LeavesStored, MayFailBy, Reads, Runs, RunsFirst, RunsOn, RunsOrder, RunsRefused, RunsTold, Seen, Stops, Stored, after_order, answered, device_line, map_unless, no_tidying, readied}
 use Rattle.bwsh.proofs.OwnLemmas.{LeavesMap-then, Runs-device, Runs-never, Runs-stops, Runs-then, Runs-told, after_told, refusal_told, told_before, with_told}
 use Rattle.bwsh.proofs.RunLemmas.{IsCut, failing, failing_cleans, first_shown, no_cleans, no_tidying_asked}
 
 -- ---- what can be seen at orders that aren't run
 
--- such a flush finds no memory, and no other order fails
+-- such a flush or copy finds no memory, and no other order fails
 abbrev unrun_fault : Order → Option Fault
 unrun_fault Flush = Some NoMemory
+unrun_fault (Copy path segments) = Some NoMemory
 unrun_fault _ = None
 
 -- nothing is tidied or cleaned before it
 abbrev unrun : Bytes → Order → Seen
 unrun file order = failing (unrun_fault order) file
 
-unrun_fails : (cleans : Bool) (settings : Settings) (at : Stored) (order : Order) → IfSome (unrun_fault order) (MayFail cleans settings at order)
+unrun_fails : (cleans : Bool) (settings : Settings) (at : Stored) (order : Order) → MayFailBy cleans settings at order (unrun_fault order)
 unrun_fails cleans settings at Flush = inl refl
+unrun_fails cleans settings at (Copy path segments) = inl refl
 unrun_fails cleans settings at _ = tt
 
 unrun_cleans : (honest cleans : Bool) (settings : Settings) (st : Store) (left : Bytes) (order : Order) → AreCleansOf honest cleans settings st order (unrun left order)
 unrun_cleans honest cleans settings st left Flush = failing_cleans honest cleans settings st Flush NoMemory (λ flush. refl) left no_tidying
+unrun_cleans honest cleans settings st left (Copy path segments) = no_cleans honest cleans settings st (Copy path segments) (unrun left (Copy path segments)) (λ e. absurd (cc)) refl
 unrun_cleans honest cleans settings st left order = no_cleans honest cleans settings st order (unrun left order) (λ e. absurd (cc)) refl
 
 IsSeen-unrun : (mode : Mode) (honest : Bool) (settings : Settings) (st : Store) (left : Bytes) (order : Order) → IsSeen mode honest settings st left order (unrun left order)
@@ -122,7 +125,7 @@ module _ (told : Bytes) (settings : Settings) (st : Store) (seen : Seen) where
   IsSeen-told : (mode : Mode) (honest : Bool) (left : Bytes) (order : Order) → IsSeen mode honest settings st left order seen → IsSeen mode honest settings st left order (with_told told seen)
   IsSeen-told mode honest left order is = (
     is.0,
-    subst (λ (at : Stored). IfSome seen.fails (MayFail mode.clean_when_full settings at order)) (sym (told_before told order settings seen (st, seen.bytes))) is.1,
+    subst (λ (at : Stored). MayFailBy mode.clean_when_full settings at order seen.fails) (sym (told_before told order settings seen (st, seen.bytes))) is.1,
     cleans_told honest mode.clean_when_full order is.2,
     is.3,
   )

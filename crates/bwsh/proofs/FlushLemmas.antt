@@ -1,4 +1,4 @@
--- A flush with the cleans in front of it: what it prints and leaves, by what `flush_cleaning` does.
+-- A flush with the cleans before it: its output and its result, from the contract of `flush_cleaning`.
 use Rattle.std.proofs.Common.{append-nil, ◌≡◌, ◌≢◌, ◌⊎◌, ◌<◌, ◌-◌, ◌+◌, inl, inr, ℕ, zero, suc, Bool, true, false, List, [], ◌∷◌, ◌++◌, Option, Some, None, Result, Ok, Err, refl, sym, ap, ◌∙◌, ⊎_elim, subst, arith}
 use Rattle.std.specs.Prelude.{IfErr, IfOk, IsTrue}
 use Rattle.std.specs.Io.KnownBytes.{Appends}
@@ -41,9 +41,9 @@ none_some fault e = cc
 some_is : {x y : Fault} → Some x ≡ Some y → x ≡ y
 some_is e = cc
 
--- ---- what is printed
+-- ---- the output
 
--- lines in front of others, of which all were written
+-- lines before others, all of which were written
 pub writes_then : (on : Bool) (old mid new : Option (List ℕ)) (front lines : List (List ℕ)) (end : Result (Unit {0}) SessionError) → Appends old mid (flat front) → Writes mid new lines end
     → PrintsOwn on old new (front ++ lines) (Ok tt) end
 writes_then on old mid new front lines end p (inl (e, a)) =
@@ -58,7 +58,7 @@ writes_then on old mid new front lines end p (inr (e, (begun, begins, a))) =
       ),
     ))
 
--- all of them were written, or the output failed
+-- all of them were written, or the output failed while they were
 pub writes_all : (old new : Option (List ℕ)) (lines : List (List ℕ)) (done : Unit {0}) → Writes old new lines (Ok done) → Appends old new (flat lines)
 writes_all old new lines done (inl (e, a)) = a
 writes_all old new lines done (inr (e, b)) = absurd (cc)
@@ -75,13 +75,13 @@ pub writes_begun : (old new : Option (List ℕ)) (lines : List (List ℕ)) (earl
 writes_begun old new lines early (inl (e, a)) = absurd (cc)
 writes_begun old new lines early (inr (e, b)) = b
 
--- the output failed in them
+-- the output failed while they were written
 pub writes_cut : (on : Bool) (old new : Option (List ℕ)) (front lines : List (List ℕ)) (right end : Result (Unit {0}) SessionError) → end ≡ Err Device → IsBegun old new (flat front)
     → PrintsOwn on old new (front ++ lines) right end
 writes_cut on old new front lines right end e (begun, begins, a) =
     inr (inr (e, (begun, subst (λ (bytes : List ℕ). BeginsWith bytes begun) (sym (flat-append front lines)) (front-longer (flat front) (flat lines) begun begins), a)))
 
--- the lines of some cleans, and of others after them
+-- the lines of some cleans, and of later ones
 head_lines-then : (n m head : ℕ) → head_lines head (n + m) ≡ head_lines head n ++ head_lines (head + n) m
 head_lines-then zero m head =
     let all : 0 + m ≡ m = omega arith in
@@ -103,7 +103,7 @@ one_printed old mid new head n segment end is p ok (inl (e, a)) =
     (Appends-trans old mid new (flat (head_lines head n)) (flat (head_lines (head + n) 1)) p (subst (λ (l : List (List ℕ)). Appends mid new (flat l)) line a)))
 one_printed old mid new head n segment end is p ok (inr (e, b)) = absurd (cc)
 
--- the output failed in that line
+-- the output failed while that line was written
 pub one_cut : (old mid new : Option (List ℕ)) (head n segment all : ℕ) (early : SessionError) → segment ≡ head + n → n < all → Appends old mid (flat (head_lines head n))
     → Writes mid new (shown_cleaned (segment + 1) ∷ []) (Err early) → Writes old new (head_lines head all) (Err early)
 one_cut old mid new head n segment all early is less p (inl (e, a)) = absurd (cc)
@@ -124,7 +124,7 @@ one_cut old mid new head n segment all early is less p (inr (e, (begun, begins, 
       ),
     )
 
--- ---- what cleans leave
+-- ---- the store after cleans
 
 pub cleaned_is : (honest : Bool) (settings : Settings) (reads : List (List ℕ)) (st : Store) (left : List ℕ) (now : Store) (last : List ℕ) → AreCleansBy honest settings st left reads now last
     → ((cleaned_by settings reads (st, left)).0 ≡ now) × (IsTrue honest → (cleaned_by settings reads (st, left)).1 ≡ last)
@@ -138,13 +138,14 @@ cleaned_is honest settings (file ∷ reads) st left now last (answer, mid, bytes
 
 -- ---- how many segments were cleaned
 
--- the lines of the segments from the first one to the one that is the first now
+-- the lines of the segments from the old first one to the new first one
 lines_of : (head last first count : ℕ) → head ≡ first → last ≡ first + count → head_lines head (last - head) ≡ head_lines first count
 lines_of head last first count head_is last_is =
     let n : last - head ≡ count = omega (arith, head_is, last_is) in
     ap (λ (k : ℕ). head_lines head k) n ∙ ap (λ (h : ℕ). head_lines h count) head_is
 
--- ---- a flush of a tidied store with these rows of cleans, which lead to this store and these bytes, of which the flush or a refused clean reads these
+-- ---- a flush of a tidied store with these rows of cleans, which lead to this store and these bytes; the flush or a refused clean reads the given
+-- bytes
 
 module _ (mode : Mode) (room : mode.clean_when_full ≡ true) (honest : Bool) (settings : Settings) (under : Store) (left : List ℕ) (tidying : Tidying) (unasked : IsAsked mode tidying)
     (start : Store) (are : IsTidiedBy settings tidying under start) (rows : List CleanRow) (cut : Bool) (cleaned_store : Store) (bytes : List ℕ)
@@ -165,7 +166,7 @@ module _ (mode : Mode) (room : mode.clean_when_full ≡ true) (honest : Bool) (s
   is_left : (fails : Option Fault) → IsTrue honest → IsLeft settings under left (seen_at fails)
   is_left fails h = (refl, shows h ∙ sym ((at_end fails).1 h))
 
-  -- the cleans are right, if the last row may be cut short only for want of memory
+  -- the cleans are right, if the last row may be incomplete only because an allocation failed
   right : (fails : Option Fault) → (cut ≡ true → finds_no_memory fails ≡ true) → (finds_no_memory fails ≡ false → rows ≡ [] → IsCalm honest settings start left)
       → (fails ≡ None → refusal_of_step settings (cleaned_store, last) (Some Step.Flush) ≡ Some Full → NoneFollow honest settings rows cleaned_store last)
       → AreCleansOf honest mode.clean_when_full settings under Flush (seen_at fails)
@@ -215,7 +216,7 @@ module _ (mode : Mode) (room : mode.clean_when_full ≡ true) (honest : Bool) (s
       },
     )
 
-  -- ---- it fails: for want of memory, or a clean is refused
+  -- ---- it fails: an allocation failed, or a clean is refused
 
   after_failed : (fault : Fault) → after_order settings under (seen_at (Some fault)) Flush ≡ (cleaned_store, last)
   unfolding after_order
@@ -249,7 +250,7 @@ module _ (mode : Mode) (room : mode.clean_when_full ≡ true) (honest : Bool) (s
         },
       )
 
-  -- ---- it is refused by its right
+  -- ---- it is refused by definition
 
   refused_own : (fault : Fault) → after_step {A = Global} (batching settings) settings cleaned_store last Step.Flush ≡ Err fault → refusal_of settings under (seen_at None) Flush ≡ Some fault
   unfolding refusal_of
@@ -296,7 +297,7 @@ own_clean s st file old new fault other (inl right) = right
 own_clean s st file old new fault other (inr (last, inl memory)) = absurd (other.1 memory)
 own_clean s st file old new fault other (inr (last, inr device)) = absurd (other.0 device.0)
 
--- a fault is that of a full log, or a clean that has it makes no room, or it ends the flush
+-- a fault is a full log, or comes from a clean of a full log that frees nothing, or ends the flush
 room_or : (fault : Fault) → (fault ≡ Full) ⊎ (fault ≡ NothingToClean) ⊎ (makes_no_room (Some fault) ≡ false)
 room_or Full = inl refl
 room_or NothingToClean = inr (inl refl)
@@ -327,18 +328,18 @@ module _ {D : Type 0} (view : D → View) (failures : D → ℕ) (mode : Mode) (
       (answer_of f.answer) now.store after step.done f.calm refl old new end (view now.disk).seen same f.holds prints
 
   module _ (fault : Fault) (f : IsStoppedCleaning view failures start now fault) where
-    -- what the flush or the refused clean reads is what was left
+    -- the flush or the refused clean reads the bytes that were left
     read_left : fault ≢ faults.Device → IsTrue honest → f.why.0 ≡ f.left
     read_left other h = f.why.1 h ∙ sym ((f.turn other).bytes h) ∙ sym (f.shows other h)
 
     holds : contents now.store.tree ≡ contents start.store.tree
     holds = ap contents f.tree
 
-    -- of this fault, after so many cleans
+    -- with this fault, after this number of cleans
     abbrev Prints : Fault → Type 0
     Prints why = PrintsOwn mode.stream old new (head_lines under.head (count_of f.rows)) (Err (errors.Fault why)) end
 
-    -- for want of memory; a device fails so, too, but that its end is another one
+    -- because an allocation failed; a failing device gives the same, with a different end
     pub by_memory : (end ≢ Err Device → fault ≢ faults.Device) → Prints NoMemory → Runs
     by_memory other prints =
         failed_runs mode room honest start.settings under seen tidying unasked start.store are f.rows f.may_be_cut now.store f.left f.are f.left (λ h. refl)
@@ -386,7 +387,7 @@ module _ {D : Type 0} (view : D → View) (failures : D → ℕ) (mode : Mode) (
         by (inl (is, refused)) = by_flush other f.why.0 (read_left other.0) (own_flush start.settings now.store f.why.0 _ _ fault other refused) prints
         by (inr (is, few, full, why, want, refused)) = by_room full why want refused (room_or fault)
 
-    -- it ends by the fault, after the lines of the cleans
+    -- it ends with the fault, after the lines of the cleans
     pub stopped_runs : (early : SessionError) → IsEndingOf fault early → end ≡ Err early → Appends old new (flat (head_lines under.head (count_of f.rows))) → Runs
     stopped_runs early (inl device) ended printed =
         let ends : end ≡ Err Device = ended ∙ ap (λ (x : SessionError). Err x) device.1 in
@@ -400,7 +401,7 @@ module _ {D : Type 0} (view : D → View) (failures : D → ℕ) (mode : Mode) (
         by (inr (inl memory)) ends = by_memory (λ _. other.0) (inl (ends ∙ ap (λ (x : Fault). Err (errors.Fault x)) memory, printed))
         by (inr (inr own)) ends = own_runs own (inl (ends, printed))
 
--- ---- what is left of a store that was compacted maybe, and then cleaned and flushed
+-- ---- the result for a store that may have been compacted, and then was cleaned and flushed
 
 module _ {D : Type 0} (store start : State D) where
   start_settings : IsStart store start → start.settings ≡ store.settings
@@ -416,7 +417,7 @@ module _ {D : Type 0} (store start : State D) where
   start_failed (inr (due, full, bloated, is, settings, disk, failed)) = failed
 
 module _ {D : Type 0} (view : D → View) (failures : D → ℕ) (store now : State D) where
-  -- it was done, and it was refused by this fault
+  -- it was done; it was refused with this fault
   abbrev Done : Type 0
   Done = (start : State D) × IsStart store start × IsFlushedCleaning view failures start now
 
@@ -428,14 +429,14 @@ module _ {D : Type 0} (view : D → View) (failures : D → ℕ) (store now : St
   settings_stay (Ok sequence) (start, is, f) none = (f.turn.settings ∙ start_settings store start is, f.turn.kept.honest ∙ ap (λ (d : D). (view d).is_honest) (start_disk store start is))
   settings_stay (Err fault) none (start, is, f) = (f.rest.0 ∙ start_settings store start is, f.rest.1.honest ∙ ap (λ (d : D). (view d).is_honest) (start_disk store start is))
 
-  -- whether it has failed, unless a call of the disk did
+  -- whether it has failed, unless a call of the disk failed
   pub done_failed : Done → now.has_failed ≡ store.has_failed
   done_failed (start, is, f) = f.turn.has_failed ∙ start_failed store start is
 
   pub stopped_failed : (fault : Fault) → Stopped fault → fault ≢ faults.Device → now.has_failed ≡ store.has_failed
   stopped_failed fault (start, is, f) other = (f.turn other).has_failed ∙ start_failed store start is
 
--- ---- the same of a store that batches have tidied before
+-- ---- the same for a store that batches have tidied before
 
 module _ {D : Type 0} (view : D → View) (failures : D → ℕ) (mode : Mode) (room : mode.clean_when_full ≡ true) (store now : State D) (first : Store)
     (by : IsByBatches mode store.settings first store.store) where
@@ -479,7 +480,7 @@ module _ {D : Type 0} (view : D → View) (failures : D → ℕ) (mode : Mode) (
       printed_are start is head last head_is f.rows (last_is ∙ rows_head _ f.may_be_cut start.settings start.store _ f.rows now.store f.left f.are)
 
   module _ (head last : ℕ) (head_is : head ≡ store.store.head) (last_is : last ≡ now.store.head) (old new : Option (List ℕ)) (end : Result (Unit {0}) SessionError) where
-    -- the lines of the cleans and that of the flush are printed, or the output fails in them
+    -- the lines of the cleans and the line of the flush are printed, or the output fails while they are
     pub done_from : Done view failures store now → PrintsOwn mode.stream old new (head_lines head (last - head) ++ shown_flushed now.store.sequence ∷ []) (Ok tt) end → RunsFrom old new end
     done_from (start, is, f) prints =
         as_store start is old new end
@@ -493,7 +494,7 @@ module _ {D : Type 0} (view : D → View) (failures : D → ℕ) (mode : Mode) (
         (stopped_runs view failures mode room start now first (tidies start is).tidying (tidies start is).asked (tidies start is).leaves old new end fault f early ends ended
         (subst (λ (l : List (List ℕ)). Appends old new (flat l)) (stopped_lines fault (start, is, f) head last head_is last_is) printed))
 
-    -- the output fails in the lines of the cleans
+    -- the output fails while the lines of the cleans are written
     pub cut_from : (r : Result ℕ Fault) → IfOk r (λ _. Done view failures store now) → IfErr r (Stopped view failures store now) → end ≡ Err Device → IsBegun old new (flat (head_lines head (last - head))) → RunsFrom old new end
     cut_from (Ok sequence) d none ends begun = done_from d (writes_cut mode.stream old new (head_lines head (last - head)) (shown_flushed now.store.sequence ∷ []) (Ok tt) end ends begun)
     cut_from (Err fault) none (start, is, f) ends begun =
@@ -501,9 +502,9 @@ module _ {D : Type 0} (view : D → View) (failures : D → ℕ) (mode : Mode) (
         (by_memory view failures mode room start now first (tidies start is).tidying (tidies start is).asked (tidies start is).leaves old new end fault f (λ other. absurd (other ends))
         (inr (inr (ends, subst (λ (l : List (List ℕ)). IsBegun old new (flat l)) (stopped_lines fault (start, is, f) head last head_is last_is) begun))))
 
--- ---- a flush of the store that batches left
+-- ---- a flush of the store after batches
 
--- it is one of the store before them, with the same settings on the same disk
+-- it is a flush of the store before them, with the same settings on the same disk
 pub flush_ready : {D : Type 0} (view : D → View) (mode : Mode) (store ready : State D) → IsOnDisk store ready → IsByBatches mode store.settings store.store ready.store
     → (old new : Option (List ℕ)) (end : Result (Unit {0}) SessionError) (now : Store) (bytes : List ℕ)
     → ((first : Store) → IsByBatches mode ready.settings first ready.store → RunsOrder mode (view ready.disk).is_honest ready.settings first (view ready.disk).seen Flush old new end now bytes)

@@ -1,4 +1,4 @@
--- What is found for the options: what was given, and the defaults of the others.
+-- The values of the options: those that were given, and the defaults of the others.
 use Rattle.std.proofs.Common.{◌≡◌, ◌∙◌, ◌++◌, ◌||◌, ap, refl, sym, subst, ℕ, Bool, true, false, cond, List, [], ◌∷◌, map, not, Option, Some, None, append-nil, codes, is_some}
 use Rattle.std.specs.List.{find, fold}
 use Rattle.std.specs.Option.{option_map, option_or}
@@ -40,7 +40,7 @@ find-append-none {X} p (y ∷ xs) ys e = go (p y) (find-append-none p xs ys) e
     go true later e = cc
     go false later e = later e
 
--- where there is no row of the id, one is appended
+-- if there is no row of the id, one is appended
 pub at_row-missing : (id : Text) (change : Row → List Row) (missing rows : List Row) → has_row id rows ≡ false → at_row id change missing rows ≡ rows ++ missing
 at_row-missing id change missing [] e = refl
 at_row-missing id change missing (r ∷ rs) e = go (bytes_eq r.id id) (at_row-missing id change missing rs) e
@@ -58,7 +58,7 @@ no_row id (r ∷ rs) e = go (bytes_eq r.id id) (no_row id rs) e
     go true later e = cc
     go false later e = later e
 
--- what is found of the defaults of an option that was not given
+-- the value from the defaults of an option that was not given
 abbrev pub default_values : Rule → List Row
 default_values a = default_rows a.id (reading_by a) a.defaults []
 
@@ -107,7 +107,7 @@ comes_in a id rows hit e = subst (λ (xs : List Row). find (at id) xs ≡ find (
     go true bad = cc
     go false ok = find-append-none (at id) rows _ e
 
--- what is found stays found
+-- a value that is found is not replaced
 found_given : (rules : List Rule) (id : Text) (rows : List Row) (r : Row) → find (at id) rows ≡ Some r
     → find (at id) (fold with_default rows rules) ≡ Some r
 found_given [] id rows r e = e
@@ -118,7 +118,7 @@ abbrev pub defaults_in : List Rule → List Row
 defaults_in [] = []
 defaults_in (a ∷ rules) = default_values a ++ defaults_in rules
 
--- what is not found yet comes from the default
+-- a value that is not found yet comes from the default
 default_found : (a : Rule) (id : Text) (rows : List Row) → find (at id) rows ≡ None → find (at id) (with_default rows a) ≡ find (at id) (default_values a)
 default_found a id rows e = go (bytes_eq a.id id) refl
   where
@@ -126,7 +126,7 @@ default_found a id rows e = go (bytes_eq a.id id) refl
     go true hit = comes_in a id rows hit e
     go false other = stays_missing a id rows other e ∙ sym (none_of a id other)
 
--- and from the first default that there is
+-- and from the first default
 found_default : (rules : List Rule) (id : Text) (rows : List Row) → find (at id) rows ≡ None
     → find (at id) (fold with_default rows rules) ≡ find (at id) (defaults_in rules)
 found_default [] id rows e = e
@@ -139,9 +139,9 @@ found_default (a ∷ rules) id rows e = go (find (at id) (default_values a)) ref
         found_given rules id (with_default rows a) r (default_found a id rows e ∙ is) ∙ sym (find-append-some (at id) (default_values a) (defaults_in rules) r is)
     go None is later = later (default_found a id rows e ∙ is) ∙ sym (find-append-none (at id) (default_values a) (defaults_in rules) is)
 
--- ---- what was given
+-- ---- given options
 
--- what was given has its name, and can be given
+-- a given option has its name and a valid text
 found_fits : (name : Text) (given : Given) (g : Text × Text) → AreGivable given → find (λ h. bytes_eq h.0 name) given ≡ Some g → (g.0 ≡ name) × IsGivable g
 found_fits name [] g all e = cc
 found_fits name (h ∷ given) g all e = go (bytes_eq h.0 name) refl (found_fits name given g (All-tail IsGivable h given all)) e
@@ -153,17 +153,17 @@ found_fits name (h ∷ given) g all e = go (bytes_eq h.0 name) refl (found_fits 
         subst (λ (k : Text × Text). (k.0 ≡ name) × IsGivable k) same ((bytes_eq-Decides h.0 name).0 hit, All-head IsGivable h given all)
     go false other later e = later e
 
--- what is found under its name, in the end
+-- the final value under its name
 found_at : (name : Text) (given : Given) (o : Option (Text × Text)) → find (λ g. bytes_eq g.0 name) given ≡ o
     → find (at name) (finished_rows given) ≡ option_or (option_map given_row o) (find (at name) (defaults_in built_rules))
 found_at name given (Some g) e = found_given built_rules name (map given_row given) (given_row g) (sym (find-map (at name) given_row given) ∙ ap (option_map given_row) e)
 found_at name given None e = found_default built_rules name (map given_row given) (sym (find-map (at name) given_row given) ∙ ap (option_map given_row) e)
 
--- the text that is read under its name
+-- the parsed text under its name
 given_text : (name : Text) (g : Text × Text) → g.0 ≡ name → row_text (given_row g) ≡ Some (read_as (reading_at name) g.1)
 given_text name g same = ap (λ (n : Text). Some (read_as (reading_at n) g.1)) same
 
--- what is found for a number that was not given
+-- the value of a number that was not given
 abbrev default_row : Text × Text → Row
 default_row p = record {
   id = p.0;
@@ -173,7 +173,7 @@ default_row p = record {
   reading = WithoutMinus;
 }
 
--- the number that is read under the name of an option is what was given for it, else its default
+-- the number under the name of an option is the given one, or else the default
 pub field_read : (name default : Text) (most : ℕ) (given : Given) (rows : List Row) (result : ℕ) → takes_number name ≡ true
     → find (at name) (defaults_in built_rules) ≡ Some (default_row (name, default)) → is_number default ≡ true → number_of default ≡ most
     → AreGivable given → rows ≡ finished_rows given
@@ -194,7 +194,7 @@ field_read name default most given rows result takes is_default number value all
 no_default_path : (name : Text) → takes_path name ≡ true → find (at name) (defaults_in built_rules) ≡ None
 no_default_path = any_of (λ name. find (at name) (defaults_in built_rules) ≡ None) path_names (refl, (refl, tt))
 
--- the path that is read is what was given
+-- the path is the given one
 pub path_read : (name : Text) → takes_path name ≡ true → (given : Given) (rows : List Row) (result : Option Text) → rows ≡ finished_rows given
     → result ≡ first_of name rows → result ≡ path_of name given
 path_read name is given rows result is_rows read = read ∙ ap (first_of name) is_rows ∙ go (find (λ g. bytes_eq g.0 name) given) refl
@@ -211,12 +211,12 @@ given_found name (g ∷ given) = go (bytes_eq g.0 name) (given_found name given)
     go true later = refl
     go false later = later
 
--- an option that takes nothing and was not given is read as this
+-- an option without a value that was not given has this value
 default_flag : (name : Text) → takes_nothing name ≡ true → option_and_then row_text (find (at name) (defaults_in built_rules)) ≡ Some (codes "false")
 default_flag = any_of (λ name. option_and_then row_text (find (at name) (defaults_in built_rules)) ≡ Some (codes "false")) flag_names
     (refl, (refl, (refl, (refl, (refl, (refl, (refl, tt)))))))
 
--- an option that takes nothing is read where it was given
+-- an option without a value is set if it was given
 pub flag_read : (name : Text) → takes_nothing name ≡ true → (given : Given) (rows : List Row) (result : Bool) → AreGivable given → rows ≡ finished_rows given
     → (one_of name rows ≡ Some (codes "true") → result ≡ true) → (one_of name rows ≡ Some (codes "false") → result ≡ false)
     → result ≡ is_given name given
@@ -233,7 +233,7 @@ flag_read name is given rows result all is_rows set unset = go (find (λ g. byte
 abbrev settings_with : ℕ → ℕ → ℕ → ℕ → ℕ → ℕ → Settings
 settings_with a b c d e f = record { fan = a; chain = b; max_key = c; max_value = d; seg_size = e; segments = f }
 
--- settings are equal by their fields
+-- settings are equal if their fields are
 pub settings_equal : {a b c d e f g h i j k l : ℕ} → a ≡ g → b ≡ h → c ≡ i → d ≡ j → e ≡ k → f ≡ l
     → settings_with a b c d e f ≡ settings_with g h i j k l
 settings_equal a b c d e f = rw (a, b, c, d, e, f) refl
@@ -248,7 +248,7 @@ crews_equal a b = rw (a, b) refl
 abbrev ways_with : Bool → Bool → Bool → Bool → Bool → ℕ → ℕ → Bool → Mode
 ways_with a b c d e f g h = record { version = a; explain = b; stat = c; clean_when_full = d; stream = e; tidy = f; wait = g; progress = h }
 
--- so are ways
+-- so are modes
 pub ways_equal : {a b c d e h i j k l m p : Bool} {f g n o : ℕ} → a ≡ i → b ≡ j → c ≡ k → d ≡ l → e ≡ m → f ≡ n → g ≡ o → h ≡ p
     → ways_with a b c d e f g h ≡ ways_with i j k l m n o p
 ways_equal a b c d e f g h = rw (a, b, c, d, e, f, g, h) refl

@@ -1,4 +1,4 @@
--- The definitions at a few literals.
+-- The values of the definitions for a few literals.
 use Rattle.std.proofs.Common.{◌≡◌, ℕ, List, [], ◌∷◌, ◌++◌, map, Some, None, refl, arith, true, false}
 use Rattle.std.specs.Prelude.{codes}
 use Rattle.std.proofs.lemmas.Fmt.{decimal_digit}
@@ -63,7 +63,7 @@ a_comment = refl
 an_escaped_command : parse_line false (codes "%67et a") ≡ Bad UnknownCommand
 an_escaped_command = refl
 
--- the number of words goes before what they are
+-- the number of words is checked before the words
 a_word_too_few : parse_line false (codes "put a%") ≡ Bad WordCount
 a_word_too_few = refl
 
@@ -73,7 +73,7 @@ a_bad_token = refl
 go_with_a_word : parse_line false (codes "go a") ≡ Bad WordCount
 go_with_a_word = refl
 
--- the star is no upper bound, and else the key of one byte; zeros may stand in front of a number
+-- a single star means no upper bound, otherwise it is the key of one byte; leading zeros are allowed
 a_scan_without_bound : parse_line false (codes "scan * * 005") ≡ Line.Command (Scan (42 ∷ []) None 5)
 a_scan_without_bound = refl
 
@@ -98,11 +98,11 @@ no_digits = refl
 a_sign_in_front : parse_line false (codes "scan a * +1") ≡ Bad BadNumber
 a_sign_in_front = refl
 
--- a limit isn't read as a token
+-- a limit is not parsed as a token
 an_escaped_number : parse_line false (codes "scan a * %31") ≡ Bad BadNumber
 an_escaped_number = refl
 
--- what is no token goes before what is no number, and the number of words before both
+-- a bad token is reported before a bad number, and the number of words before both
 a_bad_token_first : parse_line false (codes "scan a %g1 x") ≡ Bad BadToken
 a_bad_token_first = refl
 
@@ -160,11 +160,11 @@ a_skipped_batch : ordered true 1 (begun []) a_stream ≡ BadLine 2 UnknownComman
 unfolding a_stream
 a_skipped_batch = refl
 
--- the line that ends a skipped batch runs what it orders itself
+-- the line that ends a skipped batch still runs its own order
 a_flush_after_it : ordered true 1 (begun []) (map (parse_line true) (codes "put" ∷ codes "flush" ∷ [])) ≡ BadLine 1 WordCount ∷ Flush ∷ []
 a_flush_after_it = refl
 
--- what begins with a dot is known in streams alone
+-- words that begin with a dot are known only in streams
 a_dot_in_a_text : parse_line false (codes ".stat") ≡ Bad UnknownCommand
 a_dot_in_a_text = refl
 
@@ -183,7 +183,7 @@ a_copy_of_no_number = refl
 a_tidy : parse_line true (codes ".tidy 7") ≡ line_variants.Order (Tidy 7)
 a_tidy = refl
 
--- each line has its end: a line feed, or none where it is the last of a text; in a stream that one is no line
+-- each line has its end: a line feed, or nothing if it is the last line of a text; in a stream the latter is no line
 three_pieces : pieces false (97 ∷ 13 ∷ 10 ∷ 10 ∷ 98 ∷ []) ≡ (97 ∷ 13 ∷ 10 ∷ []) ∷ (10 ∷ []) ∷ (98 ∷ []) ∷ []
 unfolding line_len lines_from
 three_pieces = refl
@@ -208,12 +208,12 @@ some_rows : shown_reply (scanned ((32 ∷ 0 ∷ [], 37 ∷ []) ∷ ([], []) ∷ 
 unfolding scanned
 some_rows = rw (decimal_digit 2 (omega arith)) refl
 
--- the options of a command line stand in any order
+-- the options of a command line may be in any order
 some_options : asked (codes "--create" ∷ codes "--disk" ∷ codes "a b" ∷ codes "--fan=8" ∷ [])
     ≡ options ((codes "create", codes "true") ∷ (codes "disk", codes "a b") ∷ (codes "fan", codes "8") ∷ [])
 some_options = refl
 
--- a session that differs in nothing from one without options
+-- a session with default values is the same as one without options
 abbrev no_ways : Mode
 no_ways = record { version = false; explain = false; stat = false; clean_when_full = false; stream = false; tidy = 0; wait = 0; progress = false }
 
@@ -225,7 +225,7 @@ nothing_request : request_by []
     ≡ record { settings = record { fan = 16; chain = 4; max_key = 64; max_value = 256; seg_size = 65536; segments = 64 }; crew = record { workers = 1; grain = 64 }; disk = None; create = false; copy_to = None; mode = no_ways }
 nothing_request = refl
 
--- a path is any text, but after `--disk` none that looks like a flag
+-- a path is any text, except that after `--disk` it must not look like a flag
 an_empty_path : asked (codes "--disk" ∷ [] ∷ []) ≡ options ((codes "disk", []) ∷ [])
 an_empty_path = refl
 
@@ -235,7 +235,7 @@ a_path_with_a_hyphen = refl
 no_path : asked (codes "--disk" ∷ codes "--create" ∷ []) ≡ refused
 no_path = refl
 
--- the flag takes no text, and is given once
+-- the flag has no text, and is given at most once
 a_flag_with_a_text : asked (codes "--create=true" ∷ []) ≡ refused
 a_flag_with_a_text = refl
 
@@ -253,7 +253,7 @@ request_of_tidying : (request_by ((codes "tidy", codes "007") ∷ (codes "wait",
     ≡ record no_ways { tidy = 7; wait = 30; progress = true }
 request_of_tidying = refl
 
--- each option that takes a path has its own
+-- each option that takes a path has its own path
 two_paths : asked (codes "--copy-to" ∷ codes "b" ∷ codes "--disk=a" ∷ []) ≡ options ((codes "copy-to", codes "b") ∷ (codes "disk", codes "a") ∷ [])
 two_paths = refl
 

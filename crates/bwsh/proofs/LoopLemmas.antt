@@ -20,14 +20,14 @@ use Rattle.bwsh.specs.Source.{IsToCome, to_come}
 use Rattle.bwsh.proofs.CopiedLemmas.{End}
 use Rattle.bwsh.proofs.FirstLemmas.{RunsOn-cut, RunsOn-none}
 
--- Whatever orders can still come, what they print after what was printed is what some orders print that could come at first: these are run on this
--- store and, on an honest disk, these bytes.
+-- Whatever orders can still come, their output after the output so far is the output of some orders that were possible at first: these are run on
+-- this store and, on an honest disk, on these bytes.
 abbrev pub Continues : Mode → Bool → Settings → Store → Bytes → (List Order → Type 0) → Option Bytes → Store → Bytes → (List Order → Type 0) → Option Bytes → Type 0
 Continues mode honest settings first file AtFirst old st seen Now printed =
     (rest : List Order) → Now rest → (new : Option Bytes) (end : End) (held : Pairs Bytes) → RunsOn mode honest settings st seen rest printed new end held
     → (orders : List Order) × AtFirst orders × RunsOn mode honest settings first file orders old new end held
 
--- some orders that could come at first end so
+-- some orders that were possible at first end in this way
 abbrev pub SomeRun : Mode → Bool → Settings → Store → Bytes → (List Order → Type 0) → Option Bytes → Option Bytes → End → Pairs Bytes → Type 0
 SomeRun mode honest settings first file AtFirst old new end held = (orders : List Order) × AtFirst orders × RunsOn mode honest settings first file orders old new end held
 
@@ -45,7 +45,7 @@ module _ (mode : Mode) (honest : Bool) (settings : Settings) (first st : Store) 
   pub Continues-cut : (left : (rest : List Order) × Now rest) (held : Pairs Bytes) → SomeRun mode honest settings first file AtFirst old printed (Err Device) held
   Continues-cut (rest, is) held = continues rest is printed (Err Device) held (RunsOn-cut mode honest settings st seen rest printed Device (inr refl) held)
 
-  -- one more is answered, of a store that has the settings of the first, and a disk that is as honest
+  -- one more is answered, on a store that has the settings of the first, and on a disk that is as honest
   module _ (order : Order) (Then : List Order → Type 0) (next : (rest : List Order) → Then rest → Now (order ∷ rest)) (b : Bool) (b_is : b ≡ honest) (s : Settings) (s_is : s ≡ settings)
       (new : Option Bytes) (end : End) (after : Store) (bytes : Bytes) (one : RunsAsk mode b s st seen (order ∷ []) printed new end after bytes) where
     own : RunsAsk mode honest settings st seen (order ∷ []) printed new end after bytes
@@ -59,20 +59,20 @@ module _ (mode : Mode) (honest : Bool) (settings : Settings) (first st : Store) 
         subst (λ (r : End). RunsAsk mode honest settings st seen (order ∷ []) printed new r after bytes) e own in
         continues (order ∷ rest) (next rest is) new (Err early) held (mine.1 rest held)
 
-    -- others come after it
+    -- others follow
     pub Continues-next : (done : Unit {0}) → end ≡ Ok done → Continues mode honest settings first file AtFirst old after bytes Then new
     Continues-next done e rest is last ended held runs =
         let mine : RunsAsk mode honest settings st seen (order ∷ []) printed new (Ok done) after bytes =
         subst (λ (r : End). RunsAsk mode honest settings st seen (order ∷ []) printed new r after bytes) e own in
         continues (order ∷ rest) (next rest is) last ended held (mine rest last ended held runs)
 
--- ---- what can come of a source
+-- ---- the orders that can come from a source
 
 read_all : (lines : List Line) → AreRead lines lines
 read_all [] = tt
 read_all (line ∷ rest) = (inl refl, read_all rest)
 
--- some lines can be read of what is known
+-- some lines can be read of the known input
 pub some_read : (stream : Bool) (known : Option Bytes) → (parsed : List Line) × IfSome known (λ text. AreRead (parse_text stream text) parsed)
 some_read stream None = ([], tt)
 some_read stream (Some text) = (parse_text stream text, read_all (parse_text stream text))
@@ -80,12 +80,12 @@ some_read stream (Some text) = (parse_text stream text, read_all (parse_text str
 pub some_to_come : {I : Type 0} (known : I → Option Bytes) (s : Source I) → (orders : List Order) × IsToCome known s orders
 some_to_come known s = let (parsed, read) = some_read s.is_stream (known s.input) in (to_come s parsed, (parsed, read, refl))
 
--- the last order is the one for the numbers, if there is to be one
+-- the last order is the one to print the numbers, if it is asked for
 numbered : (stat : Bool) (orders : List Order) → orders ++ option_to_list (then_some stat Numbers) ≡ with_numbers stat orders
 numbered true orders = refl
 numbered false orders = append-nil orders
 
--- what can come of a new source is the orders of a session of some lines that can be read of its input
+-- the orders that can come from a new source are those of a session with some lines that can be read of its input
 pub come_new : {I : Type 0} (known : I → Option Bytes) (s : Source I) (input : I) (mode : Mode) (last : Option Order) → s.input ≡ input → s.is_stream ≡ mode.stream → last ≡ then_some mode.stat Numbers
     → ((parsed : List Line) → to_come s parsed ≡ asked mode.stream 1 (begun []) parsed ++ option_to_list last) → (orders : List Order) → IsToCome known s orders
     → (parsed : List Line) × IfSome (known input) (λ text. AreRead (parse_text mode.stream text) parsed) × (orders ≡ orders_in mode.stream mode.stat parsed)

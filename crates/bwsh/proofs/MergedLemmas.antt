@@ -18,7 +18,7 @@ use Rattle.bwsh.proofs.AloneLemmas.{RunsAlone-done, RunsAlone-refused, left_same
 use Rattle.bwsh.proofs.RunLemmas.{no_cleans, no_tidying_asked}
 use Rattle.bwsh.proofs.TidiedLemmas.{tidies}
 
--- these bytes are seen, the store is tidied by these batches, and the order fails so, if it does
+-- the disk has these contents, the store is tidied by these batches, and the order fails in this way, if it does
 abbrev pub seen_merged : Option Fault → Batches → Bytes → Seen
 seen_merged fails batches file = record { bytes = file; tidying = no_tidying; rows = []; last = file; merged = batches; fails = fails; told = [] }
 

@@ -20,7 +20,7 @@ pub IsUtf8-digits : (word : List ℕ) → list_all is_ascii_digit word ≡ true 
 IsUtf8-digits word digits = IsUtf8-from_ascii word (IsAscii-from_digits word (own.to word digits))
 
 module _ (word : List ℕ) (digits : list_all is_ascii_digit word ≡ true) where
-  -- what is a number for the parser of a `u32`
+  -- the texts that are numbers for the parser of a `u32`
   within : 0 < length word → digits_value 10 word < 2 ^ 32 → number_in word ≡ Some (digits_value 10 word)
   within some small =
       let not_empty : nat_eq (length word) 0 ≡ false = grind (arith, nat_tests) in
@@ -37,6 +37,6 @@ module _ (word : List ℕ) (digits : list_all is_ascii_digit word ≡ true) wher
   by (Ok n) ((some, small), is) = ap (λ (m : ℕ). Some m) is ∙ sym (within some small)
   by (Err e) not_so = sym (beyond_by (nat_eq (length word) 0) (nat_le (digits_value 10 word) 4294967295) refl refl not_so)
 
-  -- what the parser makes of the same text
+  -- the result of the parser for the same text
   pub number_in-parsed : {E : Type 0} (text : List ℕ) (r : Result ℕ E) → text ≡ word → ParsesUnsigned 32 10 text r → result_ok r ≡ number_in word
   number_in-parsed {E} text r same parsed = by r (parse_digits own 32 word r (subst (λ (t : List ℕ). ParsesUnsigned 32 10 t r) same parsed) digits)

@@ -1,4 +1,4 @@
--- Lemmas on lines and the orders that they make.
+-- Lemmas on lines and their orders.
 use Rattle.std.proofs.Common.{◌≡◌, ◌+◌, ◌||◌, ◌&&◌, ◌<◌, ◌⊎◌, ℕ, Bool, true, false, cond, ltb, length, not, Option, Some, None, Result, Ok, Err, IfErr, IsErrAnd, arith, List, [], ◌∷◌, ◌++◌, map, refl, sym, ap, ◌∙◌, append_assoc, append-nil, length-append, inl, inr, subst}
 use Rattle.std.specs.List.{AllByRecursion, flat_map, list_all, list_any}
 use Rattle.std.specs.declared.alloc.Global.{Global}
@@ -22,12 +22,12 @@ commands-last_order : (pending : List (Command Global)) → flat_map commands_of
 commands-last_order [] = refl
 commands-last_order (command ∷ commands) = refl
 
--- and in front of other orders
+-- and before other orders
 commands-last_first : (pending : List (Command Global)) (orders : List Order) → flat_map commands_of (last_order pending ++ orders) ≡ pending ++ flat_map commands_of orders
 commands-last_first [] orders = refl
 commands-last_first (command ∷ commands) orders = refl
 
--- the pending commands come first, and then those that the lines say
+-- the pending commands come first, and then the commands of the lines
 pub commands-orders_of : (pending : List (Command Global)) (parsed : List Line) → flat_map commands_of (orders_of pending parsed) ≡ pending ++ commands_of_lines parsed
 commands-orders_of pending [] = commands-last_order pending
 commands-orders_of pending (line_variants.Command command ∷ rest) =
@@ -45,14 +45,14 @@ one_batch pending (command ∷ commands) rest =
     one_batch (pending ++ command ∷ []) commands rest
     ∙ ap (λ (cs : List (Command Global)). Batch cs ∷ orders_of [] rest) (append_assoc pending (command ∷ []) commands)
 
--- the lines of some batches order those batches
+-- the orders of the lines of some batches are those batches
 pub orders_of-batch_lines : (batches : List (List (Command Global))) → orders_of [] (flat_map batch_lines batches) ≡ map (λ commands. Batch commands) batches
 orders_of-batch_lines [] = refl
 orders_of-batch_lines (commands ∷ batches) =
     one_batch [] commands (flat_map batch_lines batches)
     ∙ ap (λ (orders : List Order). Batch commands ∷ orders) (orders_of-batch_lines batches)
 
--- where each line says a command, `go` or nothing, all orders are batches
+-- if each line is a command, `go` or blank, all orders are batches
 batches-last_order : (pending : List (Command Global)) → AllByRecursion IsBatch (last_order pending)
 batches-last_order [] = tt
 batches-last_order (command ∷ commands) = (tt, tt)
@@ -66,7 +66,7 @@ batches-orders_of pending (Blank ∷ rest) only = batches-orders_of pending rest
 batches-orders_of pending (Bad why ∷ rest) only = batches-orders_of pending rest only.1
 batches-orders_of pending (line_variants.Lost ∷ rest) only = batches-orders_of pending rest only.1
 
--- ---- what a text writes
+-- ---- whether a text writes to the disk
 
 writes-last_order : (pending : List (Command Global)) → list_any writes (last_order pending) ≡ false
 writes-last_order [] = refl
@@ -76,7 +76,7 @@ writes-last_first : (pending : List (Command Global)) (orders : List Order) → 
 writes-last_first [] orders = refl
 writes-last_first (command ∷ commands) orders = refl
 
--- an order of the lines writes where a line is such an order
+-- an order of the lines writes to the disk if a line is such an order
 pub writes-orders_of : (pending : List (Command Global)) (parsed : List Line) → list_any writes (orders_of pending parsed) ≡ list_any line_writes parsed
 writes-orders_of pending [] = writes-last_order pending
 writes-orders_of pending (line_variants.Command command ∷ rest) = writes-orders_of (pending ++ command ∷ []) rest
@@ -95,19 +95,19 @@ or_false : (a : Bool) → (a || false) ≡ a
 or_false true = refl
 or_false false = refl
 
--- one line further, what was written so far and what is left write the same
+-- after one more line, the orders so far together with the remaining lines write if they did before
 pub writes-next : (before after : Bool) (said : Line) (rest : List Line) (all : Bool) → (before || list_any line_writes (said ∷ rest)) ≡ all
     → after ≡ (before || line_writes said) → (after || list_any line_writes rest) ≡ all
 writes-next before after said rest all e is = ap (λ (b : Bool). b || list_any line_writes rest) is ∙ or_assoc before (line_writes said) (list_any line_writes rest) ∙ e
 
--- after the last line, what was written is what the orders write
+-- after the last line, the result is whether the orders write
 pub writes-end : (before after : Bool) (parsed : List Line) → (before || list_any line_writes []) ≡ list_any line_writes parsed → after ≡ before
     → after ≡ list_any writes (orders_of [] parsed)
 writes-end before after parsed e is = is ∙ sym (or_false before) ∙ e ∙ sym (writes-orders_of [] parsed)
 
 -- ---- the first bad line
 
--- a line that was read, and is neither bad nor lost, is as it says
+-- a line that was read, and is neither bad nor lost, is the parsed one
 pub read_within : (said got : Line) → (got ≡ said) ⊎ (got ≡ line_variants.Lost) → IsWithin (got ∷ []) → got ≡ said
 read_within said got (inl e) within = e
 read_within said got (inr e) within = absurd (subst (λ (l : Line). IsWithin (l ∷ [])) e within)
@@ -126,7 +126,7 @@ pub first_bad-next : (n : ℕ) (said got : Line) (rest : List Line) → (got ≡
 first_bad-next n said got rest read within =
     first_bad-within n said rest (subst (λ (l : Line). IsWithin (l ∷ [])) (read_within said got read within) within)
 
--- an error for which no line is bad is right, whichever line is
+-- an error that needs no bad line is right, whichever line is bad
 error_without_bad : (bad : Option (ℕ × Why)) (e : SessionError) → IsReadError None e → IsReadError bad e
 error_without_bad bad (errors.Words error) right = right
 error_without_bad bad (errors.Bad line why) right = absurd (let none : None ≡ Some (line, why) = right in cc)
@@ -141,7 +141,7 @@ error_of_line n (line_variants.Order order) rest e right = error_without_bad (fi
 error_of_line n (Bad why) rest e right = right
 error_of_line n line_variants.Lost rest e right = error_without_bad (first_bad (n + 1) rest) e right
 
--- an error of a line is one of the text, where this line is the first of those that are left
+-- an error of a line is an error of the text, if this line is the first of the remaining ones
 pub read_error : (n : ℕ) (said got : Line) (rest : List Line) (bad : Option (ℕ × Why)) (e : SessionError) → (got ≡ said) ⊎ (got ≡ line_variants.Lost)
     → first_bad n (said ∷ rest) ≡ bad → IsReadError (first_bad n (got ∷ [])) e → IsReadError bad e
 read_error n said got rest bad e (inl same) is right =
@@ -168,7 +168,7 @@ not_short : (b rest : Bool) → b ≡ true → (not b && rest) ≡ false
 not_short true rest e = refl
 not_short false rest e = absurd (cc)
 
--- a batch that is too long stays so, and stands among the orders
+-- a batch that is too long stays too long, and is one of the orders
 long_last : (stream : Bool) (cs : List (Command Global)) (orders : List Order) → is_too_long stream cs ≡ true → is_short stream (last_order cs ++ orders) ≡ false
 long_last stream [] orders long = absurd (let none = none_too_long stream in cc)
 long_last stream (c ∷ cs) orders long = not_short (is_too_long stream (c ∷ cs)) (list_all (is_short_order stream) orders) long

@@ -1,4 +1,4 @@
--- Lemmas on what one order prints, alone and in front of others.
+-- Lemmas on the output of one order, alone and before others.
 use Rattle.std.proofs.Common.{◌≡◌, inl, inr, List, [], ◌∷◌, ◌++◌, Option, Some, None, Result, Ok, Err, refl, sym, ap, ◌∙◌, subst, append_assoc, append-nil}
 use Rattle.std.specs.Prelude.{Bool, true, false, OnOk}
 use Rattle.std.specs.Option.{option_map, option_or}
@@ -20,15 +20,15 @@ use Rattle.bwsh.specs.Session.{LeavesMap, Prints, PrintsOwn, Reads, Runs, RunsAf
 use Rattle.bwsh.proofs.Prints.{flat-append, front-longer, front-more}
 use Rattle.bwsh.proofs.RunLemmas.{first_shown}
 
--- the end of an order that is refused so, or isn't
+-- the end of an order that is refused with this fault, or is not refused
 abbrev pub ended_by : Option Fault → Result (Unit {0}) SessionError
 ended_by refused = stopped_by (option_map (λ fault. errors.Fault fault) refused)
 
--- lines and no more after them
+-- lines with none after them
 nothing_after : (front own : List Bytes) → front ++ own ++ [] ≡ front ++ own
 nothing_after front own = append-nil (front ++ own)
 
--- a beginning of some lines is one of more lines
+-- a prefix of some lines is a prefix of more lines
 flat_longer : (lines more : List Bytes) (front : Bytes) → BeginsWith (flat lines) front → BeginsWith (flat (lines ++ more)) front
 flat_longer lines more front begins = subst (λ (xs : Bytes). BeginsWith xs front) (sym (flat-append lines more)) (front-longer (flat lines) (flat more) front begins)
 
@@ -105,7 +105,7 @@ module _ (old new : Option Bytes) where
   own_cut front own further told (Some fault) last printed ends b (inr (inr (e, (begun, begins, a)))) =
       inr (inr (refl, (begun, last, flat_longer front (fault_line told ∷ further) begun begins, ends, Appends-trans old new printed begun last a b)))
 
-  -- an order of a stream is refused, and then this is told: the lines of the cleans in front of it were printed
+  -- an order of a stream is refused, and then the fault is reported: the lines of the cleans before it were printed
   own_told : (front was_own own further : List Bytes) (was told : Bytes) (r : Option Fault) (fault : Fault) (last : Option Bytes) (end : Result (Unit {0}) SessionError)
       → PrintsOwn true old new (answer_then false r was front was_own []) (ended_by r) (Err (errors.Fault fault)) → Prints true new last (fault_line told ∷ further) (Ok tt) end
       → Prints true old last (answer_then true r told front own further) (Ok tt) end
@@ -136,7 +136,7 @@ module _ (old new : Option Bytes) where
   own_done on front own further told (Some fault) done last right end (inr (inl (off, e, p))) q = absurd (cc)
   own_done on front own further told (Some fault) done last right end (inr (inr (e, p))) q = absurd (cc)
 
-  -- no order of a stream ends otherwise
+  -- an order of a stream has no other end
   own_never : (lines : List Bytes) (r : Option Fault) (early : SessionError) → (early ≡ Device → ⊥) → ((fault : Fault) → early ≡ errors.Fault fault → ⊥)
       → PrintsOwn true old new lines (ended_by r) (Err early) → ⊥
   own_never lines None early other none (inl (e, a)) = absurd (cc)
@@ -144,12 +144,12 @@ module _ (old new : Option Bytes) where
   own_never lines r early other none (inr (inl (off, e, p))) = absurd (cc)
   own_never lines r early other none (inr (inr (e, p))) = other (cc)
 
--- ---- what is told of a refusal
+-- ---- the report of a refusal
 
 abbrev pub with_told : Bytes → Seen → Seen
 with_told text seen = record seen { told = text }
 
--- what is told changes nothing else
+-- the report changes nothing else
 pub told_before : (text : Bytes) (order : Order) (settings : Settings) (seen : Seen) (at : Stored) → readied order settings (with_told text seen) at ≡ readied order settings seen at
 told_before text (Batch cs) settings seen at = refl
 told_before text (BadLine line why) settings seen at = refl
@@ -166,7 +166,7 @@ told_before text (Back lo hi limit) settings seen at = refl
 told_before text (Prefix bytes limit) settings seen at = refl
 told_before text Help settings seen at = refl
 
--- nor the lines of the cleans
+-- nor does it change the lines of the cleans
 front_told : (text : Bytes) (st : Store) (seen : Seen) (order : Order) → front_lines st (with_told text seen) order ≡ front_lines st seen order
 front_told text st seen Flush = refl
 front_told text st seen _ = refl
@@ -180,7 +180,7 @@ pub refusal_told : (text : Bytes) (settings : Settings) (st : Store) (seen : See
 unfolding refusal_of
 refusal_told text settings st seen order = ap (λ (at : Stored). option_or seen.fails (own_refusal settings at order)) (told_before text order settings seen (st, seen.bytes))
 
--- ---- an order in front of others
+-- ---- an order before others
 
 module _ (settings : Settings) (st : Store) (seen : Seen) (order : Order) (old new : Option Bytes) (rest : List Order) (shown : Reads) where
   abbrev left : Stored
@@ -189,11 +189,11 @@ module _ (settings : Settings) (st : Store) (seen : Seen) (order : Order) (old n
   abbrev own : List Bytes
   own = own_lines settings st seen (contents st.tree) order
 
-  -- the lines of the cleans in front of it
+  -- the lines of the cleans before it
   abbrev front : List Bytes
   front = front_lines st seen order
 
-  -- why it is refused, if it is, and what answers the others
+  -- why it is refused, if it is, and the answers to the others
   abbrev why : Option Fault
   why = refusal_of settings st seen order
 
@@ -214,26 +214,26 @@ module _ (settings : Settings) (st : Store) (seen : Seen) (order : Order) (old n
   Runs-device false off last printed ends a p = absurd (cc)
   Runs-device true is last printed ends a p = own_cut old new front own (further true) seen.told why last printed ends a p
 
-  -- no order of a stream ends otherwise
+  -- an order of a stream has no other end
   pub Runs-never : (on : Bool) → on ≡ true → (early : SessionError) → (early ≡ Device → ⊥) → ((fault : Fault) → early ≡ errors.Fault fault → ⊥)
       → RunsAlone on settings st seen order old new (Err early) → ⊥
   unfolding RunsAlone
   Runs-never false off early other none p = absurd (cc)
   Runs-never true is early other none p = own_never old new _ why early other none p
 
-  -- it leaves this store, whether it is refused or not
+  -- this is the store after it, whether it is refused or not
   module _ (now : Store) (now_is : now ≡ left.0) (holds : contents now.tree ≡ map_unless why (contents st.tree) order) (last : Option Bytes) (end : Result (Unit {0}) SessionError) where
-    -- what the others print on that
+    -- the output of the others on that store
     abbrev printing : Bool → Store → Pairs Bytes → List Bytes
     printing on at m = answered on settings at shown m rest
 
-    -- what orders leave on that
+    -- the result of orders on that store
     pub LeavesMap-then : (held : Pairs Bytes) → LeavesMap settings now shown rest end held → LeavesMap settings st (first_shown seen shown) (order ∷ rest) end held
     LeavesMap-then held p =
         subst (λ (s : Store). OnOk end (held ≡ map_kept settings s shown (map_unless why (contents st.tree) order) rest)) now_is
         (subst (λ (m : Pairs Bytes). OnOk end (held ≡ map_kept settings now shown m rest)) holds p)
 
-    -- it is done: what the others print comes after it
+    -- it is done: the output of the others follows
     then_on : (on : Bool) → Prints on new last (printing on now (contents now.tree)) (orders_end on settings now shown rest) end
         → Prints on new last (further on) (orders_end on settings left.0 shown rest) end
     then_on on q =
@@ -251,7 +251,7 @@ module _ (settings : Settings) (st : Store) (seen : Seen) (order : Order) (old n
         own_done old new false front own (further false) seen.told why done last (orders_end false settings st (first_shown seen shown) (order ∷ rest)) end p
         (subst (λ (right : Result (Unit {0}) SessionError). Prints false new last (further false) right end) ends (then_on false q))
 
--- an order of a stream is refused, and this is told of it: what the others print comes after the line of its fault
+-- an order of a stream is refused, and this fault is reported: the output of the others follows the line of its fault
 module _ (settings : Settings) (st : Store) (seen : Seen) (order : Order) (old new : Option Bytes) (rest : List Order) (shown : Reads) (told : Bytes) (now : Store)
     (now_is : now ≡ (after_order settings st seen order).0) (holds : contents now.tree ≡ map_unless (refusal_of settings st seen order) (contents st.tree) order)
     (last : Option Bytes) (end : Result (Unit {0}) SessionError) where

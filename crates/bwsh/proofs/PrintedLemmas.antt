@@ -1,4 +1,4 @@
--- What is printed in all, in the words of the commands.
+-- The whole output, in terms of the commands.
 use Rattle.std.proofs.Common.{◌≡◌, ◌-◌, ℕ, List, [], ◌∷◌, ◌++◌, map, Option, Some, None, refl, sym, ap, append_assoc, ◌∙◌}
 use Rattle.std.specs.Prelude.{take}
 use Rattle.std.specs.List.{All, AllByRecursion, flat_map}
@@ -56,7 +56,7 @@ pub printed-upgrade : (settings : Settings) (st : Store) (shown : Reads) (m : Li
     ≡ shown_upgraded (after_order settings st (shown 0) Upgrade).0.sequence ++ printed settings (after_order settings st (shown 0) Upgrade).0 (later shown) m rest
 printed-upgrade settings st shown m rest = refl
 
--- an order that is no step leaves the store, whether it fails or not
+-- an order that is no step does not change the store, whether it fails or not
 unmoved : (fails : Option Fault) (at : Stored) → left_unless fails at at ≡ at
 unmoved None at = refl
 unmoved (Some fault) at = refl
@@ -115,7 +115,7 @@ pub printed-tidy : (settings : Settings) (st : Store) (shown : Reads) (m : List 
     ++ printed settings (after_order settings st (shown 0) (Tidy most)).0 (later shown) m rest
 printed-tidy settings st shown m most rest = refl
 
--- it makes no difference how the commands are cut into batches
+-- the division of the commands into batches makes no difference
 printed-commands : (settings : Settings) (st : Store) (shown : Reads) (m : List (List ℕ × List ℕ)) (orders : List Order) → AllByRecursion IsBatch orders
     → printed settings st shown m orders ≡ flat_map shown_reply (replies_to m (flat_map commands_of orders))
 printed-commands settings st shown m [] only = refl

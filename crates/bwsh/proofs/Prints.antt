@@ -1,4 +1,4 @@
--- Lemmas on fronts of lists, and on what was printed.
+-- Lemmas on prefixes of lists, and on output.
 use Rattle.std.proofs.Common.{◌≡◌, ◌⊎◌, inl, inr, ℕ, List, [], ◌++◌, map, Option, Result, Err, refl, sym, ap, ◌∙◌, subst, append_assoc, append-nil}
 use Rattle.std.specs.List.{flat_map}
 use Rattle.std.specs.Io.KnownBytes.{Appends, Keeps}
@@ -12,7 +12,7 @@ use Rattle.bwsh.specs.declared.session.SessionError.TheVariants.{Device}
 use Rattle.bwsh.specs.Output.{BeginsWith}
 use Rattle.bwsh.specs.Session.{Prints, device_line}
 
--- ---- fronts of lists
+-- ---- prefixes of lists
 
 pub flat-append : (xss yss : List (List ℕ)) → flat (xss ++ yss) ≡ flat xss ++ flat yss
 flat-append xss yss = flat_map-append (λ (xs : List ℕ). xs) xss yss
@@ -33,9 +33,9 @@ module _ {X : Type 0} where
 pub front-flat : (lines front : List (List ℕ)) → BeginsWith lines front → BeginsWith (flat lines) (flat front)
 front-flat lines front (rest, e) = (flat rest, ap flat e ∙ flat-append front rest)
 
--- ---- what was printed
+-- ---- the output
 
--- whatever the end, what was printed is a front of the lines' text, and after it a front of the line of a failed device
+-- whatever the end is, the output is a prefix of the lines' text, and after it a prefix of the line for a failed device
 pub Prints-front : (on : Bool) (old new : Option (List ℕ)) (lines : List (List ℕ)) (right end : Result (Unit {0}) SessionError)
     → Prints on old new lines right end → (front : List ℕ) × (last : List ℕ) × BeginsWith (flat lines) front × BeginsWith (device_line on) last × Appends old new (front ++ last)
 Prints-front on old new lines right end (inl (e, b)) =
@@ -59,7 +59,7 @@ Prints-device on old mid new lines right end p k =
     let (front, last, begins, ends, b) = Prints-front on old mid lines right end p in
     inr (inr (refl, (front, last, begins, ends, Appends-kept old mid new (front ++ last) b k)))
 
--- an output to which nothing was appended first
+-- an output to which the empty text was appended first
 module _ (on : Bool) (old mid new : Option (List ℕ)) (asked : Appends old mid []) where
   after_nothing : (bs : List ℕ) → Appends mid new bs → Appends old new bs
   after_nothing bs a = Appends-trans old mid new [] bs asked a
@@ -69,7 +69,7 @@ module _ (on : Bool) (old mid new : Option (List ℕ)) (asked : Appends old mid 
   Prints-asked lines right end (inr (inl (off, e, (front, begins, a)))) = inr (inl (off, e, (front, begins, after_nothing (flat front) a)))
   Prints-asked lines right end (inr (inr (e, (front, last, begins, ends, a)))) = inr (inr (e, (front, last, begins, ends, after_nothing (front ++ last) a)))
 
--- the output is handed on to the device, and that may fail
+-- the output is flushed to the device, which may fail
 pub Prints-flushed : (on : Bool) (old mid new : Option (List ℕ)) (lines : List (List ℕ)) (right done end : Result (Unit {0}) SessionError)
     → Prints on old mid lines right done → Keeps mid new → (end ≡ done) ⊎ (end ≡ Err Device) → Prints on old new lines right end
 Prints-flushed on old mid new lines right done end p k (inl e) = rw e (Prints-kept on old mid new lines right done p k)

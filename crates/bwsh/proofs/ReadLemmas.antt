@@ -1,4 +1,4 @@
--- The number that is read of a text.
+-- The number that is parsed from a text.
 use Rattle.std.proofs.Common.{◌≡◌, ◌∙◌, ◌<◌, ◌^◌, ◌==◌, ap, refl, sym, subst, arith, ℕ, Bool, true, false, cond, drop, [], ◌∷◌, Option, Some, None}
 use Rattle.std.specs.Prelude.{pos, unwrap_or, Ok, Err, Result}
 use Rattle.std.specs.Option.{UnwrapsOrElse}
@@ -27,7 +27,7 @@ no_plus (d ∷ ds) h =
     let plus : (d == 43) ≡ false = ne_eqb _ _ (λ e. omega (arith, digit_from_value d h.1.0)) in
     ap (λ (b : Bool). drop (cond b 1 0) (d ∷ ds)) plus
 
--- `u32` reads of a text that passes what the test says
+-- `u32` parses a text that passes the test to the number that the specification gives
 pub number_read : (E : Type 0) (G : Text → Result ℕ E → Type 0) (t : Text) (r : Option ℕ) → ((u : Text) (x : Result ℕ E) → G u x → ParsesUnsigned 32 10 u x)
     → is_number t ≡ true → ReadsOne G (without_minus t) r → r ≡ Some (number_of t)
 number_read E G t r only passes read =

@@ -1,4 +1,4 @@
--- Lemmas on what a stream does after a refusal or a bad line.
+-- Lemmas on a stream after a refusal or a bad line.
 use Rattle.std.proofs.Common.{◌≡◌, ◌+◌, ◌<◌, ◌⊎◌, inl, inr, ℕ, suc, Bool, true, cond, length, arith, List, [], ◌∷◌, ◌++◌, Option, Some, None, Ok, Err, refl, sym, ap, ◌∙◌, length-append}
 use Rattle.std.specs.Option.{option_or}
 use Rattle.std.specs.declared.alloc.Global.{Global}
@@ -31,12 +31,12 @@ step_left : (at : Stored) (r : Stepped Global) (fault : Fault) → refused_by r 
 step_left at (Ok p) fault e = absurd (cc)
 step_left at (Err other) fault e = refl
 
--- a step that is refused leaves what is stored
+-- a step that is refused does not change the stored data
 step_refused : (settings : Settings) (at : Stored) (step : Option (Step Global)) (fault : Fault) → refusal_of_step settings at step ≡ Some fault → left_by_step settings at step ≡ at
 step_refused settings at None fault e = refl
 step_refused settings at (Some x) fault e = step_left at (after_step (batching settings) settings at.0 at.1 x) fault e
 
--- an order is no step, or is refused by its right as its step is
+-- an order is no step, or is refused by definition as its step is
 step_or_none : (settings : Settings) (order : Order) → (step_in order ≡ None) ⊎ ((at : Stored) → own_refusal settings at order ≡ refusal_of_step settings at (step_in order))
 step_or_none settings Lost = inl refl
 step_or_none settings _ = inr (λ at. refl)
@@ -53,7 +53,7 @@ left_refused : (settings : Settings) (at : Stored) (order : Order) (fails : Opti
 left_refused settings at order None fault e = own_refused settings at order fault e
 left_refused settings at order (Some other) fault e = refl
 
--- what is readied for an order holds the same
+-- the store that was prepared for an order has the same pairs
 held_before : (order : Order) (settings : Settings) (seen : Seen) (at : Stored) → contents (readied order settings seen at).0.tree ≡ contents at.0.tree
 held_before Flush settings seen at = holds-cleaned settings seen at
 held_before (Tidy most) settings seen at = holds-tidied settings (by_batches seen.merged) at
@@ -67,7 +67,7 @@ refused-holds settings st seen order fault e =
     let at : Stored = readied order settings seen (st, seen.bytes) in
     ap (λ (left : Stored). contents left.0.tree) (left_refused settings at order seen.fails fault e) ∙ held_before order settings seen (st, seen.bytes)
 
--- it is answered by a line, after those of the cleans in front of it, and the others after it
+-- it is answered by a line, after those of the cleans before it, and the others follow
 pub answered-refused : (settings : Settings) (st : Store) (shown : Reads) (m : Pairs Bytes) (order : Order) (rest : List Order) (fault : Fault) → refusal_of settings st (shown 0) order ≡ Some fault
     → answered true settings st shown m (order ∷ rest) ≡ front_lines st (shown 0) order ++ fault_line (shown 0).told ∷ answered true settings (after_order settings st (shown 0) order).0 (later shown) m rest
 answered-refused settings st shown m order rest fault e =
@@ -88,7 +88,7 @@ refusal-too_long settings st seen none commands many =
     ∙ ap (λ (b : Bool). option_or (cond b (Some BatchTooLong) (first_fault settings 0 commands)) (height_fault (planned_tree settings st.tree commands).height))
     (lt-ltb 65535 (length commands) many)
 
--- a batch that lost a line is refused, too
+-- a batch that lost a line is also refused
 pub refusal-lost : (settings : Settings) (st : Store) (seen : Seen) → seen.fails ≡ None → refusal_of settings st seen Lost ≡ Some NoMemory
 unfolding refusal_of
 refusal-lost settings st seen none = ap (λ (r : Option Fault). option_or r (Some NoMemory)) none
@@ -115,13 +115,13 @@ pub skipped-go : (stream : Bool) (n : ℕ) (front : List Line) → IsInBatch fro
 skipped-go stream n front inside rest =
     skipped_over stream n front (Go ∷ rest) inside ∙ ap (λ (k : ℕ). asked stream k (begun []) rest) (one_after n (length front))
 
--- or up to one with its own order, which is run
+-- or up to a line with its own order, which is run
 pub skipped-order : (stream : Bool) (n : ℕ) (front : List Line) → IsInBatch front → (order : Order) (rest : List Line)
     → asked stream n skipped (front ++ line_variants.Order order ∷ rest) ≡ order ∷ asked stream (n + (length front + 1)) (begun []) rest
 skipped-order stream n front inside order rest =
     skipped_over stream n front (line_variants.Order order ∷ rest) inside ∙ ap (λ (k : ℕ). order ∷ asked stream k (begun []) rest) (one_after n (length front))
 
--- the command with which a batch is too long ends it
+-- the command that makes a batch too long ends it
 pub asked-too_long : (n : ℕ) (pending : List (Command Global)) → length pending ≡ 65535 → (command : Command Global) (rest : List Line)
     → asked true n (begun pending) (line_variants.Command command ∷ rest) ≡ Batch (pending ++ command ∷ []) ∷ asked true (n + 1) skipped rest
 asked-too_long n pending many command rest =

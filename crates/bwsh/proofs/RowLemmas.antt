@@ -1,4 +1,4 @@
--- Rows of cleans in front of a flush: what they lead to, what they are on an honest disk, and what they are if less is known to be honest.
+-- Rows of cleans before a flush: the store that they lead to, what they are on an honest disk, and what they are if less is known to be honest.
 use Rattle.std.proofs.Common.{◌≡◌, ◌⊎◌, ◌<◌, ◌≤◌, ◌+◌, ◌-◌, inl, inr, ⊎_elim, ℕ, zero, suc, Bool, true, false, List, [], ◌∷◌, length, length-append, Option, Some, None, Result, Ok, Err, refl, sym, ap, ◌∙◌, subst, arith}
 use Rattle.std.specs.Prelude.{IsTrue, min}
 use Rattle.std.specs.declared.alloc.Global.{Global}
@@ -42,13 +42,13 @@ none_left n count segments some few all = absurd (omega (arith, some, few, all))
 not_more : (n m most : ℕ) → n < m → m ≤ most → n ≡ most → ⊥
 not_more n m most less few all = absurd (omega (arith, less, few, all))
 
--- ---- what rows lead to
+-- ---- the store that rows lead to
 
 count_reads : (rows : List CleanRow) → length (reads_in rows) ≡ count_of rows
 count_reads [] = refl
 count_reads (row ∷ earlier) = length-append (reads_in earlier) row.reads ∙ ap (λ (n : ℕ). n + length row.reads) (count_reads earlier)
 
--- each clean leaves the next segment as the first one
+-- after each clean the next segment is the first one
 pub rows_head : (honest cut : Bool) (s : Settings) (st : Store) (left : List ℕ) (rows : List CleanRow) (now : Store) (last : List ℕ) → AreRows honest cut s st left rows now last
     → now.head ≡ st.head + count_of rows
 rows_head honest cut s st left rows now last are =
@@ -77,7 +77,7 @@ step_same s st f g same p q first second = same_ok p q (sym first ∙ ap (λ (fi
 not_both : (p : Answer Global × Stored) (fault : Fault) → (let r : Stepped Global = Ok p in r ≡ Err fault) → ⊥
 not_both p fault e = absurd (cc)
 
--- so it isn't refused
+-- so it is not refused
 not_refused : (s : Settings) (st : Store) (left : List ℕ) → IsCleanDone s st left → IsCleanRefused true s st left → ⊥
 not_refused s st left (p, done) (file, shown, fault, refused) =
     not_both p fault (sym done ∙ ap (λ (f : List ℕ). after_step {A = Global} (batching s) s st f Clean) (sym (shown refl)) ∙ refused)
@@ -85,7 +85,7 @@ not_refused s st left (p, done) (file, shown, fault, refused) =
 cons_is : {X : Type 0} (x y : X) (xs ys : List X) → x ≡ y → xs ≡ ys → x ∷ xs ≡ y ∷ ys
 cons_is {X} x y xs ys first rest = ap (λ (z : X). z ∷ xs) first ∙ ap (λ (zs : List X). y ∷ zs) rest
 
--- as many cleans lead to the same
+-- the same number of cleans leads to the same store
 cleans_same : (s : Settings) (reads others : List (List ℕ)) (st : Store) (left : List ℕ) (now after : Store) (last end : List ℕ) → length reads ≡ length others
     → AreCleansBy true s st left reads now last → AreCleansBy true s st left others after end → (reads ≡ others) × (now ≡ after) × (last ≡ end)
 cleans_same s [] [] st left now after last end many (is, shows) (is_too, shows_too) = (refl, is ∙ sym is_too, shows refl ∙ sym (shows_too refl))
@@ -98,7 +98,7 @@ cleans_same s (f ∷ fs) (g ∷ gs) st left now after last end many (answer, mid
     let (rest, stores, files) = cleans_same s fs gs mid bytes now after last end (omega (arith, many)) further here in
     (cons_is f g fs gs same rest, stores, files)
 
--- where others are more, the next one is done
+-- if another row has more cleans, the next one is done
 cleans_more : (s : Settings) (reads others : List (List ℕ)) (st : Store) (left : List ℕ) (now after : Store) (last end : List ℕ) → length reads < length others
     → AreCleansBy true s st left reads now last → AreCleansBy true s st left others after end → IsCleanDone s now last
 cleans_more s reads [] st left now after last end less one two = absurd (omega (arith, less))
@@ -126,7 +126,7 @@ module _ (s : Settings) where
   abbrev IsWholeRow : List CleanRow → Store → List ℕ → CleanRow → Store → List ℕ → Type 0
   IsWholeRow earlier st left row now last = IsRow true false s earlier st left row now last
 
-  -- none is shorter than another one that begins there
+  -- no row is shorter than another one with the same start
   not_shorter : (earlier : List CleanRow) (st : Store) (left : List ℕ) (row other : CleanRow) (now after : Store) (last end : List ℕ) → IsWholeRow earlier st left row now last
       → IsWholeRow earlier st left other after end → length row.reads < length other.reads → ⊥
   not_shorter earlier st left row other now after last end one two less =
@@ -148,7 +148,7 @@ module _ (s : Settings) where
     abbrev AreWhole : List CleanRow → Store → List ℕ → Type 0
     AreWhole rows now last = AreRows true false s st left rows now last
 
-    -- as many rows lead to the same
+    -- the same number of rows leads to the same store
     rows_same : (rows others : List CleanRow) (now after : Store) (last end : List ℕ) → length rows ≡ length others → AreWhole rows now last → AreWhole others after end
         → (rows ≡ others) × (now ≡ after) × (last ≡ end)
     rows_same [] [] now after last end many (is, shows) (is_too, shows_too) = (refl, is ∙ sym is_too, shows refl ∙ sym (shows_too refl))
@@ -168,7 +168,7 @@ module _ (s : Settings) where
         (earlier : List CleanRow) × (length earlier ≡ n) × (mid : Store) × (bytes : List ℕ) × AreRows true false s st left earlier mid bytes
         × ((row : CleanRow) × (now : Store) × (last : List ℕ) × IsWholeRow earlier mid bytes row now last)
 
-    -- among rows there is one after fewer ones
+    -- rows have another one after any smaller number of them
     one_more : (rows : List CleanRow) (now : Store) (last : List ℕ) (n : ℕ) → n < length rows → AreWhole rows now last → OneMore n
     one_more [] now last n less are = absurd (omega (arith, less))
     one_more (row ∷ rows) now last n less (mid, bytes, opened, one) = by (compared n (length rows)) (one_more rows mid bytes n)
@@ -180,7 +180,7 @@ module _ (s : Settings) where
 
   -- ---- where rows end on an honest disk
 
-  -- a store is not calm for which a row is early
+  -- a store is not calm if a row begins early
   not_calm : (st : Store) (left ahead : List ℕ) → ahead ≡ left → IsEarly s st ahead → IsCleanDone s st left → IsCalm true s st left → ⊥
   not_calm st left ahead same early done (inl (file, shown, never)) = never (subst (λ (f : List ℕ). IsEarly s st f) (same ∙ sym (shown refl)) early)
   not_calm st left ahead same early done (inr refused) = not_refused s st left done refused
@@ -188,7 +188,7 @@ module _ (s : Settings) where
   same_live : (o : Option ℕ) (a b : ℕ) → o ≡ Some a → o ≡ Some b → a ≡ b
   same_live o a b first second = cc
 
-  -- a row begins since the log is full, unless it is early
+  -- a row begins because the log is full, unless it begins early
   begins_full : (st : Store) (left : List ℕ) (rows : List CleanRow) (now : Store) (last : List ℕ) → AreRows true false s st left rows now last → (rows ≡ [] → IsCalm true s st left)
       → (row : CleanRow) (after : Store) (end : List ℕ) → IsWholeRow rows now last row after end → IsFull s now row.ahead
   begins_full st left rows now last opened calm row after end one = by one.begins
@@ -204,7 +204,7 @@ module _ (s : Settings) where
       by (inl (full, quiet)) = full
       by (inr (first, early)) = absurd (not_calm now last row.ahead (one.shown refl) early done (at_start rows opened first (calm first)))
 
-  -- where a flush ends them, there is no other one
+  -- if a flush ends them, there is no further row
   none_after : (st : Store) (left : List ℕ) (rows : List CleanRow) (now : Store) (last : List ℕ) → AreRows true false s st left rows now last → (rows ≡ [] → IsCalm true s st left)
       → (after_flush s now last ≡ Err Full → NoneFollow true s rows now last) → (row : CleanRow) (after : Store) (end : List ℕ) → IsWholeRow rows now last row after end → ⊥
   none_after st left rows now last opened calm follows row after end one =
@@ -220,13 +220,13 @@ module _ (s : Settings) where
           let no : false ≡ true = sym room ∙ ap (λ (n : ℕ). is_overfull s now n) same ∙ over in absurd (cc)
       by roomy (inr (inr refused)) = not_refused s now last (first_done s row.reads now last after end one.some one.done) refused
 
-  -- rows that a flush ends, which is done or refused by its right
+  -- rows before a flush that is done or is refused by definition
   abbrev AreEnded : Store → List ℕ → List CleanRow → Store → List ℕ → Type 0
   AreEnded st left rows now last =
       AreRows true false s st left rows now last × (rows ≡ [] → IsCalm true s st left) × (after_flush s now last ≡ Err Full → NoneFollow true s rows now last)
 
   module _ (st : Store) (left : List ℕ) where
-    -- there are no more than these
+    -- there are no further ones
     not_longer : (rows others : List CleanRow) (now after : Store) (last end : List ℕ) → AreEnded st left rows now last → AreRows true false s st left others after end → length rows < length others → ⊥
     not_longer rows others now after last end (are, calm, follows) are_too less = by (one_more st left others after end (length rows) less are_too)
       where
@@ -250,7 +250,7 @@ module _ (s : Settings) where
         by (inr (inl less)) = absurd (not_longer others rows after now end last two one.0 less)
         by (inr (inr more)) = absurd (not_longer rows others now after last end one two.0 more)
 
--- those that are right in front of a flush that doesn't fail
+-- the right rows before a flush that doesn't fail
 ended_of : (settings : Settings) (st now : Store) (seen : Seen) → seen.fails ≡ None → AreRight true settings st now seen → AreEnded settings st seen.bytes seen.rows now seen.last
 ended_of settings st now seen none (are, calm, follows) =
     let found : finds_no_memory seen.fails ≡ false = ap finds_no_memory none in (
@@ -259,7 +259,7 @@ ended_of settings st now seen none (are, calm, follows) =
       λ full. follows none (ap (λ (r : Result Stored Fault). refused_by (answering of_flush r)) full),
     )
 
--- what was left decides the cleans in front of a flush
+-- the bytes that were left determine the cleans before a flush
 pub rows_decided : (settings : Settings) (st now after : Store) (seen other : Seen) → other.bytes ≡ seen.bytes → seen.fails ≡ None → other.fails ≡ None → AreRight true settings st now seen
     → AreRight true settings st after other → (other.rows ≡ seen.rows) × (after ≡ now) × (other.last ≡ seen.last)
 rows_decided settings st now after seen other bytes none none_too one two =
@@ -268,7 +268,7 @@ rows_decided settings st now after seen other bytes none none_too one two =
 
 -- ---- no rows
 
--- there are none in front of an order that is no flush, or where flushes make themselves no room
+-- there are none before an order that is no flush, or if flushes do not clean
 pub bare : (honest cleans : Bool) (settings : Settings) (st : Store) (order : Order) → (order ≡ Flush → cleans ≡ false) → (seen : Seen) → AreCleansOf honest cleans settings st order seen → seen.rows ≡ []
 bare honest true settings st Flush plain seen are = let off = plain refl in absurd (cc)
 bare honest true settings st _ plain seen are = are

@@ -34,7 +34,7 @@ use Rattle.bwsh.specs.declared.session.SessionError.{SessionError}
 use Rattle.bwsh.specs.declared.session.SessionError.TheVariants as errors
 use Rattle.bwsh.specs.declared.options.asked.Mode.{Mode}
 use Rattle.engine.specs.Cleaning.{CleanRow, count_of}
-use Rattle.bwsh.specs.Session.{Stored, Seen, Reads, Tidying, AreCleansOf, AreUntidied, IsAsked, IsSeen, MayFail, TidiesBy, no_tidying, untidied, step_in, left_by, refused_by, left_by_step, refusal_of_step, refusal_of, finds_no_memory, front_lines, head_lines, readied, after_order, map_after, map_unless, own_lines, own_refusal, answer_then, PrintsOwn, RunsAlone, RunsOrder, LeavesStored}
+use Rattle.bwsh.specs.Session.{Stored, Seen, Reads, Tidying, AreCleansOf, AreUntidied, CanBeDone, IsAsked, IsSeen, MayFail, TidiesBy, no_tidying, untidied, step_in, left_by, refused_by, left_by_step, refusal_of_step, refusal_of, finds_no_memory, front_lines, head_lines, readied, after_order, map_after, map_unless, own_lines, own_refusal, answer_then, PrintsOwn, RunsAlone, RunsOrder, LeavesStored}
 use Rattle.bwsh.specs.Output.{Writes}
 use Rattle.bwsh.specs.Shown.{shown_flushed, shown_cleaned, shown_upgraded, shown_answer}
 use Rattle.bwsh.proofs.StoreLemmas.{IsEndingOf}
@@ -206,14 +206,24 @@ TidiesBy-none mode shown none = λ i. as_asked mode (no_tidying_asked mode) (non
 abbrev pub failing : Option Fault → List ℕ → Seen
 failing fails file = record { bytes = file; tidying = no_tidying; rows = []; last = file; merged = []; fails = fails; told = [] }
 
--- these bytes can be seen, where nothing is tidied or cleaned, and they are what the disk shows if it is honest
-pub seen_left : (mode : Mode) (honest : Bool) (settings : Settings) (st : Store) (left file : List ℕ) (order : Order) → (order ≡ Flush → mode.clean_when_full ≡ false) → (IsTrue honest → file ≡ left)
-    → IsSeen mode honest settings st left order (untidied file)
-seen_left mode honest settings st left file order plain is =
-    (no_tidying_asked mode, tt, no_cleans honest mode.clean_when_full settings st order (untidied file) plain refl, λ h. (is h, refl))
+-- an order before which nothing is tidied does what its step does
+pub untidied_before : (order : Order) (settings : Settings) (fails : Option Fault) (file : List ℕ) (st : Store) → readied order settings (failing fails file) (st, file) ≡ (st, file)
+untidied_before Flush settings fails file st = refl
+untidied_before (Tidy most) settings fails file st = refl
+untidied_before _ settings fails file st = refl
 
-pub seen_untidied : (mode : Mode) (honest : Bool) (settings : Settings) (st : Store) (left : List ℕ) (order : Order) → (order ≡ Flush → mode.clean_when_full ≡ false) → IsSeen mode honest settings st left order (untidied left)
-seen_untidied mode honest settings st left order plain = seen_left mode honest settings st left left order plain (λ h. refl)
+-- these bytes can be seen, where nothing is tidied or cleaned, and they are what the disk shows if it is honest
+pub seen_left : (mode : Mode) (honest : Bool) (settings : Settings) (st : Store) (left file : List ℕ) (order : Order) → (order ≡ Flush → mode.clean_when_full ≡ false)
+    → CanBeDone settings (readied order settings (untidied file) (st, file)) order
+    → (IsTrue honest → file ≡ left)
+    → IsSeen mode honest settings st left order (untidied file)
+seen_left mode honest settings st left file order plain can is =
+    (no_tidying_asked mode, can, no_cleans honest mode.clean_when_full settings st order (untidied file) plain refl, λ h. (is h, refl))
+
+pub seen_untidied : (mode : Mode) (honest : Bool) (settings : Settings) (st : Store) (left : List ℕ) (order : Order) → (order ≡ Flush → mode.clean_when_full ≡ false) → CanBeDone settings (st, left) order
+    → IsSeen mode honest settings st left order (untidied left)
+seen_untidied mode honest settings st left order plain can =
+    seen_left mode honest settings st left left order plain (subst (λ (at : Stored). CanBeDone settings at order) (sym (untidied_before order settings None left st)) can) (λ h. refl)
 
 -- it can be seen that something fails which may, if a flush does for want of memory
 pub seen_failing : (mode : Mode) (honest : Bool) (settings : Settings) (st : Store) (left file : List ℕ) (order : Order) (fault : Fault) → (order ≡ Flush → fault ≡ NoMemory)
@@ -221,12 +231,6 @@ pub seen_failing : (mode : Mode) (honest : Bool) (settings : Settings) (st : Sto
     → IsSeen mode honest settings st left order (failing (Some fault) file)
 seen_failing mode honest settings st left file order fault memory may is =
     (no_tidying_asked mode, may, failing_cleans honest mode.clean_when_full settings st order fault memory file no_tidying, λ h. (is h, refl))
-
--- an order before which nothing is tidied does what its step does
-pub untidied_before : (order : Order) (settings : Settings) (fails : Option Fault) (file : List ℕ) (st : Store) → readied order settings (failing fails file) (st, file) ≡ (st, file)
-untidied_before Flush settings fails file st = refl
-untidied_before (Tidy most) settings fails file st = refl
-untidied_before _ settings fails file st = refl
 
 pub after_order-untidied : (settings : Settings) (st : Store) (file : List ℕ) (order : Order) → after_order settings st (untidied file) order ≡ left_by_step settings (st, file) (step_in order)
 unfolding after_order
@@ -259,6 +263,14 @@ memory_fails cleans settings at (Batch cs) y is = refl
 memory_fails cleans settings at Clean y is = refl
 memory_fails cleans settings at Upgrade y is = refl
 memory_fails cleans settings at _ y is = absurd (cc)
+
+-- no step is a copy
+pub step_can_be_done : (settings : Settings) (at : Stored) (order : Order) (y : Step Global) → step_in order ≡ Some y → CanBeDone settings at order
+step_can_be_done settings at Flush y is = tt
+step_can_be_done settings at (Batch cs) y is = tt
+step_can_be_done settings at Clean y is = tt
+step_can_be_done settings at Upgrade y is = tt
+step_can_be_done settings at _ y is = absurd (cc)
 
 -- ---- what a step answers
 
@@ -464,7 +476,7 @@ module _ (mode : Mode) (honest : Bool) (settings : Settings) (st : Store) (seen 
         let after : after_order settings st (untidied file) order ≡ (st, file) =
         after_order-untidied settings st file order ∙ ap (left_by_step settings (st, file)) is ∙ ap (left_by (st, file)) e in (
           untidied file,
-          seen_left mode honest settings st seen file order plain of_seen,
+          seen_left mode honest settings st seen file order plain (step_can_be_done settings (readied order settings (untidied file) (st, file)) order (step_of x) is) of_seen,
           refused settings st (untidied file) order mode.stream text text (none_in_front st (untidied file) order refl) fault refl some,
           λ other. LeavesStored-unmoved honest settings st st (untidied file) order fault some file after refl now bytes same (λ h. unwritten h ∙ sym (of_seen h)),
         )
@@ -477,7 +489,7 @@ module _ (mode : Mode) (honest : Bool) (settings : Settings) (st : Store) (seen 
   pub RunsOrder-device : (text : Option (List ℕ)) (now : Store) (bytes : List ℕ) → RunsOrder mode honest settings st seen order text text (Err errors.Device) now bytes
   RunsOrder-device text now bytes = (
     untidied seen,
-    seen_untidied mode honest settings st seen order plain,
+    seen_untidied mode honest settings st seen order plain (step_can_be_done settings (st, seen) order (step_of x) is),
     cut_off settings st (untidied seen) order mode.stream text text refl,
     λ other. absurd (other refl),
   )
@@ -533,7 +545,7 @@ module _ (mode : Mode) (honest : Bool) (settings : Settings) (st : Store) (seen 
       one_answered old new end said said_is p =
           let printed = subst (λ (l : List (List ℕ)). PrintsOwn mode.stream old new l (Ok tt) end) (answers_of said said_is) (PrintsOwn-writes mode.stream old new (flat_map shown_answer (map answer_of said)) end p) in (
             untidied done.file,
-            seen_left mode honest settings st seen done.file order plain done.shown,
+            seen_left mode honest settings st seen done.file order plain (step_can_be_done settings (readied order settings (untidied done.file) (st, done.file)) order (step_of x) is) done.shown,
             bare_printed settings st (untidied done.file) order mode.stream old new (none_in_front st (untidied done.file) order refl) end none printed,
             λ other. leaves,
           )

@@ -1,4 +1,4 @@
--- Lemmas on what is printed through a buffer.
+-- Lemmas on output through a buffer.
 use Rattle.std.proofs.Common.{◌≡◌, ◌<◌, ◌≤◌, ◌+◌, ◌-◌, ℕ, zero, suc, length, take, drop, get_or, arith, inl, inr, List, [], ◌∷◌, ◌++◌, Option, Result, Ok, Err, refl, sym, ap, ◌∙◌, subst, append_assoc, append-nil}
 use Rattle.std.specs.Prelude.{codes, OnOk, OnErr, IsOkUnless}
 use Rattle.std.specs.Fmt.{decimal}
@@ -15,7 +15,7 @@ use Rattle.bwsh.specs.Output.{Adds, BeginsWith, IsBegun, Puts, Writes}
 use Rattle.bwsh.specs.Shown.{shown_row, shown_rows}
 use Rattle.bwsh.proofs.Prints.{flat-append, front-longer, front-more}
 
--- ---- bytes that are added to a text, of which the front may be written
+-- ---- bytes that are added to a text, a prefix of which may have been written
 
 pub Adds-none : (a : Option (List ℕ)) (held : List ℕ) → Adds a held a held []
 Adds-none a held = ([], Appends-nil a, append-nil held)
@@ -24,7 +24,7 @@ pub IsBegun-longer : (a b : Option (List ℕ)) (text more : List ℕ) → IsBegu
 IsBegun-longer a b text more (front, begins, appended) = (front, front-longer text more front begins, appended)
 
 module _ (a b : Option (List ℕ)) (held mid xs : List ℕ) (first : Adds a held b mid xs) where
-  -- what stood there with both after it is what was written with what follows it
+  -- the old contents followed by both texts are the written bytes followed by the rest
   moved : (ys : List ℕ) → held ++ (xs ++ ys) ≡ first.0 ++ (mid ++ ys)
   moved ys = sym (append_assoc held xs ys) ∙ ap (λ (l : List ℕ). l ++ ys) first.2 ∙ append_assoc first.0 mid ys
 
@@ -44,7 +44,7 @@ module _ (a b : Option (List ℕ)) (held mid xs : List ℕ) (first : Adds a held
 
 -- ---- a loop that adds
 
--- of the bytes of all of it these are left
+-- these are the remaining bytes of all
 pub record AreAdded (a : Option (List ℕ)) (held : List ℕ) (b : Option (List ℕ)) (mid whole rest : List ℕ) : Type 0 where
   pub done : List ℕ
   pub added : Adds a held b mid done
@@ -81,7 +81,7 @@ bytes_left f xs i x h is = ap (flat_map f) (drop_more xs i x h ∙ ap (λ (y : _
 -- ---- a buffer
 
 module _ {O : Type 0} (contents : O → Option (List ℕ)) where
-  -- two texts are put one after the other
+  -- two texts are added in sequence
   pub Puts-then : (old : Buffer) (out : O) (mid : Buffer) (between : O) (now : Buffer) (last : O) (xs ys : List ℕ) (done : Unit {0}) (r : Result (Unit {0}) SessionError)
       → Puts contents old out mid between xs (Ok done) → Puts contents mid between now last ys r → Puts contents old out now last (xs ++ ys) r
   Puts-then old out mid between now last xs ys done (Ok x) p q =
@@ -89,13 +89,13 @@ module _ {O : Type 0} (contents : O → Option (List ℕ)) where
   Puts-then old out mid between now last xs ys done (Err e) p (e_is, q) =
       (e_is, IsBegun-then (contents out) (contents between) old.text.items mid.text.items xs p (contents last) ys q)
 
-  -- the output failed in the first of them
+  -- the output failed while the first was added
   pub Puts-cut : (old : Buffer) (out : O) (now : Buffer) (last : O) (xs ys : List ℕ) (early : SessionError)
       → Puts contents old out now last xs (Err early) → Puts contents old out now last (xs ++ ys) (Err early)
   Puts-cut old out now last xs ys early (e_is, q) =
       (e_is, subst (IsBegun (contents out) (contents last)) (append_assoc old.text.items xs ys) (IsBegun-longer (contents out) (contents last) (old.text.items ++ xs) ys q))
 
-  -- whichever end that was
+  -- whatever its end was
   pub Puts-early : (old : Buffer) (out : O) (now : Buffer) (last : O) (xs ys : List ℕ) (early : SessionError) (r : Result (Unit {0}) SessionError)
       → (y : SessionError) × (r ≡ Err y) × (y ≡ early) → Puts contents old out now last xs (Err early) → Puts contents old out now last (xs ++ ys) r
   Puts-early old out now last xs ys early r (y, is, same) p =
@@ -107,7 +107,7 @@ module _ {O : Type 0} (contents : O → Option (List ℕ)) where
   Puts-from first old out now last xs (Ok x) same (front, appended, is) = (front, appended, ap (λ (l : List ℕ). l ++ xs) (sym same) ∙ is)
   Puts-from first old out now last xs (Err e) same (e_is, q) = (e_is, subst (IsBegun (contents out) (contents last)) (ap (λ (l : List ℕ). l ++ xs) same) q)
 
-  -- after an empty text, bytes that are written
+  -- bytes that are written after an empty text
   pub Puts-written : (old : Buffer) (out last : O) (xs : List ℕ) (r : Result (Unit {0}) SessionError) → old.text.items ≡ []
       → OnOk r (Appends (contents out) (contents last) xs) → OnErr r (IsBegun (contents out) (contents last) xs) → IsOkUnless r Device → Puts contents old out old last xs r
   Puts-written old out last xs (Ok x) none a b d =
@@ -126,9 +126,9 @@ module _ {O : Type 0} (contents : O → Option (List ℕ)) where
       → xs ≡ ys → Puts contents old out now last xs r → Puts contents old out now last ys r
   Puts-as old out now last xs ys r same p = subst (λ (l : List ℕ). Puts contents old out now last l r) same p
 
--- ---- what is written at once
+-- ---- output that is written at once
 
--- one text
+-- a single text
 pub Writes-one : (old new : Option (List ℕ)) (text bytes : List ℕ) (r : Result (Unit {0}) SessionError) → bytes ≡ text
     → OnOk r (Appends old new bytes) → OnErr r (IsBegun old new bytes) → IsOkUnless r Device → Writes old new (text ∷ []) r
 Writes-one old new text bytes (Ok x) is a b d = inl (refl, subst (Appends old new) (is ∙ sym (append-nil text)) a)
@@ -152,10 +152,10 @@ pub Writes-early : (old new : Option (List ℕ)) (lines rest : List (List ℕ)) 
 Writes-early old new lines rest early (inl (e, a)) = absurd (cc)
 Writes-early old new lines rest early (inr (e, b)) = inr (e, subst (IsBegun old new) (sym (flat-append lines rest)) (IsBegun-longer old new (flat lines) (flat rest) b))
 
--- ---- what is written through a buffer that had nothing
+-- ---- output through a buffer that was empty
 
 module _ {O : Type 0} (contents : O → Option (List ℕ)) (old : Option (List ℕ)) (held : List ℕ) (none : held ≡ []) (lines : List (List ℕ)) where
-  -- all was put, and the text is written out
+  -- all was added, and the text is written
   pub Writes-out : (mid : Buffer) (between : O) (now : Buffer) (last : O) (whole : List ℕ) (r : Result (Unit {0}) SessionError) → Adds old held (contents between) mid.text.items whole
       → whole ≡ flat lines → Puts contents mid between now last [] r → OnOk r (now.text.items ≡ []) → Writes old (contents last) lines r
   Writes-out mid between now last whole (Ok x) put is (front, appended, moved) left =
@@ -178,17 +178,17 @@ module _ {O : Type 0} (contents : O → Option (List ℕ)) (old : Option (List �
       let begun = added-cut old (contents between) held mid.text.items whole rest so_far one more split (contents last) q in
       subst (λ (x : Result (Unit {0}) SessionError). Writes old (contents last) lines x) (sym (e ∙ ap (λ (x : SessionError). Err x) same)) (Writes-cut (contents last) whole early e_is begun is)
 
--- ---- what is put first, and then written out
+-- ---- text that is added first, and then written
 
 module _ {O : Type 0} (contents : O → Option (List ℕ)) where
-  -- it failed in what was put first
+  -- it failed while the first text was added
   pub Writes-put : (first : Buffer) (out : O) (now : Buffer) (last : O) (xs : List ℕ) (lines : List (List ℕ)) (early : SessionError) (r : Result (Unit {0}) SessionError) → first.text.items ≡ [] → xs ≡ flat lines
       → (y : SessionError) × (r ≡ Err y) × (y ≡ early) → Puts contents first out now last xs (Err early) → Writes (contents out) (contents last) lines r
   Writes-put first out now last xs lines early r none is (y, e, same) (e_is, begun) =
       subst (λ (x : Result (Unit {0}) SessionError). Writes (contents out) (contents last) lines x) (sym (e ∙ ap (λ (x : SessionError). Err x) same))
       (Writes-cut contents (contents out) first.text.items none lines (contents last) xs early e_is begun is)
 
-  -- all was put, and is written out
+  -- all was added, and is written
   pub Writes-put_out : (first : Buffer) (out : O) (mid : Buffer) (between : O) (now : Buffer) (last : O) (xs : List ℕ) (lines : List (List ℕ)) (done : Unit {0}) (r : Result (Unit {0}) SessionError) → first.text.items ≡ []
       → xs ≡ flat lines → Puts contents first out mid between xs (Ok done) → Puts contents mid between now last [] r → OnOk r (now.text.items ≡ []) → Writes (contents out) (contents last) lines r
   Writes-put_out first out mid between now last xs lines done r none is put written left =
@@ -196,15 +196,16 @@ module _ {O : Type 0} (contents : O → Option (List ℕ)) where
 
 -- ---- lines
 
--- a row, from the first and from the last
+-- a row, concatenated from the left and from the right
 pub row_joined : (key value : List ℕ) → key ++ (32 ∷ (value ++ 10 ∷ [])) ≡ key ++ 32 ∷ value ++ 10 ∷ []
 row_joined key value = sym (append_assoc key (32 ∷ value) (10 ∷ []))
 
--- a line, and what follows it
+-- a line, and the text that follows it
 pub rows_joined : (word number rest : List ℕ) → (word ++ number ++ 10 ∷ []) ++ rest ≡ word ++ number ++ 10 ∷ rest
 rows_joined word number rest = append_assoc (word ++ number) (10 ∷ []) rest
 
--- texts, each after a word, and what ends them: three and then three or four, each part joined from the last, are all of them joined from the first
+-- texts, each after a word, and an end: three and then three or four, each part concatenated from the right, equal all of them concatenated from the
+-- left
 pub six_joined : (a s b h c t d i e g f p end : List ℕ)
     → (a ++ (s ++ (b ++ (h ++ (c ++ t))))) ++ (d ++ (i ++ (e ++ (g ++ (f ++ (p ++ end)))))) ≡ a ++ s ++ b ++ h ++ c ++ t ++ d ++ i ++ e ++ g ++ f ++ p ++ end
 six_joined a s b h c t d i e g f p end = simp append_assoc
@@ -213,12 +214,12 @@ pub seven_joined : (a s b h c t d i e g f p j q end : List ℕ)
     → (a ++ (s ++ (b ++ (h ++ (c ++ t))))) ++ (d ++ (i ++ (e ++ (g ++ (f ++ (p ++ (j ++ (q ++ end)))))))) ≡ a ++ s ++ b ++ h ++ c ++ t ++ d ++ i ++ e ++ g ++ f ++ p ++ j ++ q ++ end
 seven_joined a s b h c t d i e g f p j q end = simp append_assoc
 
--- rows, after how many there are
+-- rows, after their number
 pub rows_shown : (rows : List (List ℕ × List ℕ)) (count : ℕ) → count ≡ length rows → (codes "rows " ++ decimal count ++ 10 ∷ []) ++ flat_map shown_row rows ≡ flat (shown_rows rows ∷ [])
 rows_shown rows count is =
     ap (λ (n : ℕ). (codes "rows " ++ decimal n ++ 10 ∷ []) ++ flat_map shown_row rows) is ∙ rows_joined (codes "rows ") (decimal (length rows)) (flat_map shown_row rows) ∙ sym (append-nil (shown_rows rows))
 
--- one more row of the first
+-- one more of the first rows
 pub take_one : {X : Type 0} (left : ℕ) (x : X) (xs : List X) → (left ≡ 0 → ⊥) → take left (x ∷ xs) ≡ x ∷ take (left - 1) xs
 take_one zero x xs some = absurd (some refl)
 take_one (suc k) x xs some = let e : suc k - 1 ≡ k = omega arith in rw e refl

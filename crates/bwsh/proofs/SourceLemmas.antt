@@ -1,4 +1,4 @@
--- Lemmas on the source of a session's orders: the lines that it reads, and what they order.
+-- Lemmas on the source of a session's orders: the lines that it reads, and their orders.
 use Rattle.std.proofs.Common.{◌≡◌, ◌≢◌, ◌≤◌, ◌<◌, ◌+◌, ◌-◌, ◌==◌, ◌&&◌, ◌⊎◌, inl, inr, ℕ, suc, length, take, take_all, drop, slice_index, Bool, true, false, cond, List, [], ◌∷◌, ◌++◌, map, filter, All, Option, Some, None, IfSome, option_to_list, Result, Ok, Err, IfOk, OnOk, is_err, nat_eq, refl, sym, ap, ◌∙◌, subst, append_assoc, append-nil, arith, lt-ltb, eqb-true, eq-eqb, le_refl, nat_lt, if◌then◌else◌}
 use Rattle.std.specs.Bool.{then_some}
 use Rattle.std.specs.Io.{StartsWith, StopsAt, IsEmptyOrEndsWith}
@@ -28,7 +28,7 @@ use Rattle.bwsh.specs.Source.{IsBatched, IsKept, IsNext, IsParsed, IsRead, IsSki
 
 -- ---- the first line of some bytes
 
--- it ends at the first line feed, or where the bytes end
+-- it ends at the first line feed, or at the end of the bytes
 pub line_len-found : (xs : List ℕ) (r : Option ℕ) (at : ℕ) → IsFirstByte (is_byte 10) xs r → r ≡ Some at → at + 1 ≡ line_len xs
 line_len-found xs r at first e =
     let h = subst (λ (o : Option ℕ). IsFirstByte (is_byte 10) xs o) e first in
@@ -68,7 +68,7 @@ lines_of-first x xs =
     ∙ ap (λ (l : List ℕ). l ∷ lines_of (drop (line_len (x ∷ xs)) (x ∷ xs))) (first_taken (x ∷ xs))
     ∙ ap (λ (l : List ℕ). take_through 10 (x ∷ xs) ∷ lines_of l) (first_dropped (x ∷ xs))
 
--- it has some bytes where they have
+-- it is not empty if they are not
 some_taken : (x : ℕ) (xs : List ℕ) → 0 < length (take_through 10 (x ∷ xs))
 some_taken x xs = go (x == 10)
   where
@@ -103,7 +103,7 @@ pub last_byte-none : (xs : List ℕ) → last_byte_of xs ≡ None → xs ≡ []
 last_byte-none [] none = refl
 last_byte-none (x ∷ xs) none = let bad : Some (slice_index (x ∷ xs) (length (x ∷ xs) - 1)) ≡ None = sym (last_byte-some x xs) ∙ none in absurd (cc)
 
--- that of bytes to which some were appended is the last of these
+-- the last byte after an append is the last appended byte
 last_place : (x y : ℕ) (ys : List ℕ) → slice_index (x ∷ y ∷ ys) (length (x ∷ y ∷ ys) - 1) ≡ slice_index (y ∷ ys) (length (y ∷ ys) - 1)
 last_place x y ys =
     let place : length (x ∷ y ∷ ys) - 1 ≡ suc (length (y ∷ ys) - 1) = omega arith in
@@ -121,7 +121,7 @@ last_byte-append xs [] b is = absurd (never_some b (sym is))
 last_byte-append [] (y ∷ ys) b is = is
 last_byte-append (x ∷ xs) (y ∷ ys) b is = last_byte-append xs (y ∷ ys) b is ∙ sym (last_byte-after x y xs ys)
 
--- bytes end with a line feed or have none
+-- bytes end with a line feed or contain none
 ends_with : (xs : List ℕ) → last_byte_of xs ≡ Some 10 → IsEmptyOrEndsWith xs 10
 ends_with [] is some = absurd (omega arith)
 ends_with (x ∷ xs) is some = let e : Some (slice_index (x ∷ xs) (length (x ∷ xs) - 1)) ≡ Some 10 = sym (last_byte-some x xs) ∙ is in cc
@@ -156,7 +156,7 @@ ends_after x [] some = absurd (omega arith)
 ends_after x (y ∷ ys) some =
     sym (is_line-stream (x ∷ y ∷ ys)) ∙ ap (λ (o : Option ℕ). is_line true o) (last_byte-more x y ys) ∙ is_line-stream (y ∷ ys)
 
--- all was taken where what was taken doesn't end with a line feed
+-- all was read if the part that was read doesn't end with a line feed
 none_after : (xs : List ℕ) → ends_with_byte 10 (take_through 10 xs) ≡ false → drop_through 10 xs ≡ []
 none_after [] open_end = refl
 none_after (x ∷ xs) open_end = go (x == 10) refl open_end (none_after xs)
@@ -173,9 +173,9 @@ none_after (x ∷ xs) open_end = go (x == 10) refl open_end (none_after xs)
         absurd (cc)
     go false e h later = last xs h later
 
--- ---- what a text says
+-- ---- the lines of a text
 
--- what a piece of it says
+-- the line of a part of it
 abbrev said : Bool → List ℕ → Line
 said stream piece = parse_line stream (without_terminator piece)
 
@@ -219,7 +219,7 @@ IsRead-unknown : (stream : Bool) (left : Option (List ℕ)) (line : Option Line)
 IsRead-unknown stream left None = tt
 IsRead-unknown stream left (Some line) = tt
 
--- it was read whole, after nothing
+-- it was read completely, from its first byte
 pub IsRead-whole : (stream : Bool) (known left : Option (List ℕ)) (before bytes : List ℕ) (line : Option Line) → before ≡ []
     → IfSome known (λ xs. bytes ≡ before ++ take_through 10 xs) → DropsThrough known left 10 → IsParsed stream bytes line → IsRead stream known left line
 IsRead-whole stream None left before bytes line none is rest parsed = IsRead-unknown stream left line
@@ -227,7 +227,7 @@ IsRead-whole stream (Some text) left before bytes line none is rest parsed =
     let all : bytes ≡ take_through 10 text = is ∙ ap (λ (l : List ℕ). l ++ take_through 10 text) none in
     IsRead-known stream text left line rest (subst (λ (l : List ℕ). IsParsed stream l line) all parsed)
 
--- it was lost after some of its bytes
+-- it was lost after some of its bytes were read
 IsRead-lost : (stream : Bool) (known mid left : Option (List ℕ)) (bytes : List ℕ) (line : Option Line) → Consumes known mid bytes
     → IfSome mid (λ xs. IsParsed stream (take_through 10 (bytes ++ xs)) line × (left ≡ Some (drop_through 10 (bytes ++ xs)))) → IsRead stream known left line
 IsRead-lost stream None mid left bytes line read lost = IsRead-unknown stream left line
@@ -248,7 +248,7 @@ IsParsed-none stream text last b is ends fails = sym (is ∙ ap (λ (o : Option 
 
 -- ---- the rest of a line
 
--- the next bytes were shown, and those of the line were skipped
+-- the next bytes were buffered, and those of the line were skipped
 pub IsSkipped-shown : (known mid left : Option (List ℕ)) (buffered : Option ℕ) (shown : List ℕ) (len : ℕ) (last : Option ℕ) → len ≡ line_len shown
     → IfSome known (λ xs. StartsWith xs shown) → IfSome known (λ xs. length shown ≡ 0 → xs ≡ []) → Keeps known mid
     → IfSome known (λ _. IfSome buffered (λ k. length shown ≤ k)) → DropsConsumable mid left buffered len → last ≡ last_byte_of (take len shown) → IsSkipped known left last
@@ -340,7 +340,7 @@ Skips-at_end (Some xs) (Some ys) (Some zs) read last (part, rest, is, stops, end
     (take_through-append 10 part [] inside ∙ append-nil part) ends
     (ap (λ (l : List ℕ). Some l) (all_read ∙ sym (drop_through-append 10 part [] inside)))
 
--- a line was lost, if there was one
+-- if there was a line, it was lost
 pub IsParsed-lost : (stream : Bool) (known left : Option (List ℕ)) (read : List ℕ) (last : Option ℕ) (b : Bool) (line : Option Line) → IsSkippedWhole known left read last
     → b ≡ is_line stream last → line ≡ then_some b line_variants.Lost
     → IfSome known (λ xs. IsParsed stream (take_through 10 (read ++ xs)) line × (left ≡ Some (drop_through 10 (read ++ xs))))
@@ -352,7 +352,7 @@ IsParsed-lost stream (Some xs) left read last b line (ends, left_is) is line_is 
     by true e = (sym e, inr refl)
     by false e = sym e
 
--- such a line is what was read
+-- the line that was read is such a line
 pub IsRead-skipped : {E : Type 0} (stream : Bool) (known mid left : Option (List ℕ)) (before bytes : List ℕ) (r : Result (Option Line) E) → before ≡ []
     → Consumes known mid (drop (length before) bytes)
     → IfOk r (λ line. IfSome mid (λ xs. IsParsed stream (take_through 10 (bytes ++ xs)) line × (left ≡ Some (drop_through 10 (bytes ++ xs))))) → IfOk r (IsRead stream known left)
@@ -360,12 +360,12 @@ IsRead-skipped stream known mid left before bytes (Err e) none read lost = tt
 IsRead-skipped stream known mid left before bytes (Ok line) none read lost =
     IsRead-lost stream known mid left bytes line (subst (λ (l : List ℕ). Consumes known mid (drop (length l) bytes)) none read) lost
 
--- what holds where a call succeeds
+-- this holds if a call succeeds
 pub ok_so : {X E : Type 0} (r : Result X E) (b : Bool) (P : Type 0) → b ≡ is_err r → b ≡ false → OnOk r P → P
 ok_so (Ok x) b P is fails p = p
 ok_so (Err e) b P is fails p = let bad : true ≡ false = sym is ∙ fails in absurd (cc)
 
--- ---- what a line orders, in front of others
+-- ---- the orders of a line, before others
 
 line_order : (stream : Bool) (n : ℕ) (pending : Pending) (order : Order) (rest : List Line)
     → asked stream n pending (line_variants.Order order ∷ rest) ≡ unended pending ++ (order ∷ asked stream (n + 1) (begun []) rest)
@@ -475,7 +475,7 @@ read_none : (stream : Bool) (known left : Option (List ℕ)) → IsRead stream k
 read_none stream None left read = tt
 read_none stream (Some text) left read = subst (λ (lines : List Line). AreRead lines []) (sym read) tt
 
--- what is to come, of what decides on it
+-- the orders to come, as a function of the values that determine them
 abbrev come : Option Order → Bool → Bool → ℕ → Pending → Option Order → List Line → List Order
 come queued ended stream n pending last parsed = option_to_list queued ++ (if ended then [] else asked stream (n + 1) pending parsed ++ option_to_list last)
 
@@ -535,7 +535,7 @@ module _ {I : Type 0} (known : I → Option (List ℕ)) where
         same_come old.queued None old.is_at_end false old.is_stream mid.is_stream old.number old.number (pending_of old) (pending_of mid) old.last mid.last parsed
         none going (sym kept.0) refl kept_pending (sym kept.4)
 
-    -- a line was read, and what it orders is next
+    -- a line was read, and its orders are next
     pub IsToCome-line : (line : Line) → IsRead old.is_stream (known old.input) (known mid.input) (Some line) → mid.number ≡ old.number + 1 → Orders mid new line order
         → IsBatched mid new → (rest : List Order) → IsToCome known new rest → IsToCome known old (option_to_list order ++ rest)
     IsToCome-line line read next (got, either, orders) batched rest (parsed, are, is) =
@@ -555,7 +555,7 @@ module _ {I : Type 0} (known : I → Option (List ℕ)) where
               ∙ sym (old_come (got ∷ parsed)),
         )
 
-    -- there was no line, and what is left is next
+    -- there was no line, and the remaining orders are next
     pub IsNext-ended : IsRead old.is_stream (known old.input) (known mid.input) None → option_to_list order ++ option_to_list new.queued ≡ unended (pending_of mid) ++ option_to_list mid.last
         → new.is_at_end ≡ true → (order ≡ None → new.queued ≡ None) → IsNext known old new order
     IsNext-ended read orders ended alone =

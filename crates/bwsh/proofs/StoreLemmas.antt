@@ -23,17 +23,17 @@ use Rattle.bwsh.specs.declared.session.SessionError.TheVariants as errors
 use Rattle.bwsh.specs.Options.{Request, Text}
 use Rattle.bwsh.specs.Session.{Start, IsCopyEnd, IsStartBy, Opens, IsUnopened, start_unless, start_by, first_stored, new_start, found_start}
 
--- an ending for a fault: a device's is reported as such
+-- an early end for a fault: a failure of a device is reported as such
 abbrev pub IsEndingOf : Fault → SessionError → Type 0
 IsEndingOf f early = ((f ≡ fault.Device) × (early ≡ Device)) ⊎ ((f ≢ fault.Device) × (early ≡ errors.Fault f))
 
--- memory was refused, or a device failed
+-- allocation failed, or a device failed
 late : (start : Start) (old new : ℕ) (f : Fault) (early : SessionError) → IsLate old new f → IsEndingOf f early → IsUnopened start early
 late start old new f early memory_or_device (inl device) = inr (inr device.1)
 late start old new f early (inl memory) (inr other) = inr (inl (other.1 ∙ ap (λ (x : Fault). errors.Fault x) memory))
 late start old new f early (inr device) (inr other) = absurd (other.0 device.0)
 
--- no store is there by this fault
+-- there is no store because of this fault
 right : (start : Start) (f : Fault) (early : SessionError) → start ≡ Err f → IsEndingOf f early → IsUnopened start early
 right start f early is (inl device) = inr (inr device.1)
 right start f early is (inr other) = inl (f, is, other.1)
@@ -58,13 +58,13 @@ module _ (settings : Settings) (file : List ℕ) where
     is_new : new_start settings file ≡ Ok (settings, first_stored settings file)
     is_new = start_by_field None good
 
-    -- nothing refuses it on a disk with room
+    -- it is not refused on a disk with room
     pub unrefused : (size : ℕ) → disk_size settings ≤ size → create_refusal settings size ≡ None
     unrefused size room =
         let no : nat_lt size (disk_size settings) ≡ false = grind (arith, nat_tests) in
         rw (good, no) refl
 
-    -- it is made on a disk that is as honest as before
+    -- it is created on a disk that is as honest as before
     pub Opens-made : {D : Type 0} (view : D → View) (x : State D) (old : View) → x.settings ≡ settings → x.store ≡ first_store → (view x.disk).is_honest ≡ old.is_honest
         → (IsTrue old.is_honest → old.seen ≡ file) → (IsTrue old.is_honest → (after_create settings old.seen ≡ Ok (x.store, (view x.disk).seen)) × IsSynced (view x.disk))
         → disk_size settings ≤ old.size → (IsTrue old.is_honest → length old.seen ≡ old.size) → Opens view (new_start settings file) (Ok x)
@@ -89,7 +89,7 @@ module _ (settings : Settings) (file : List ℕ) where
 
 -- ---- a copy
 
--- why there is none
+-- the reason why there is none
 pub IsCopyEnd-refused : (settings : Settings) (m : List (List ℕ × List ℕ)) (size old new : ℕ) (f : Fault) (early : SessionError) (Other : Fault → Type 0) → first_bad_field settings ≡ None
     → disk_size settings ≤ size → MatchOption (create_refusal settings size) (IsCopyFault settings m old new f) Other → IsEndingOf f early → IsCopyEnd settings m early
 IsCopyEnd-refused settings m size old new f early Other good room refused ending =
@@ -103,7 +103,7 @@ IsCopyEnd-refused settings m size old new f early Other good room refused ending
 
 -- ---- the store of a file
 
--- it was found on a disk whose reads give what they gave
+-- it was opened on a disk whose reads give the same as before
 pub Opens-found : {D : Type 0} (view : D → View) (file : List ℕ) (old : View) (x : State D) → store_of_disk file ≡ Ok (x.settings, x.store) → Kept old (view x.disk)
     → (IsTrue old.is_honest → file ≡ old.seen) → (IsTrue old.is_honest → (view x.disk).seen ≡ old.seen) → Opens view (found_start file) (Ok x)
 Opens-found view file old x e kept read seen =
@@ -113,7 +113,7 @@ pub IsUnopened-found : (file : List ℕ) (old new : ℕ) (f : Fault) (early : Se
 IsUnopened-found file old new f early (inl own) ending = right (found_start file) f early (ap (start_by file) own) ending
 IsUnopened-found file old new f early (inr later) ending = late (found_start file) old new f early later ending
 
--- ---- the start that the words give
+-- ---- the start that the words ask for
 
 -- in memory
 pub IsStartBy-memory : (request : Request) → request.disk ≡ None

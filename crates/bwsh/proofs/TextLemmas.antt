@@ -13,7 +13,7 @@ none_of_both : (o p : Option Fault) → option_or o p ≡ None → (o ≡ None) 
 none_of_both None p e = (refl, e)
 none_of_both (Some fault) p e = absurd (let some : Some fault ≡ None = e in cc)
 
--- where nothing is refused a stream answers all
+-- if nothing is refused, a stream answers all
 pub answered-all : (settings : Settings) (st : Store) (shown : Reads) (m : Pairs Bytes) (orders : List Order) → first_refusal settings st shown orders ≡ None
     → answered true settings st shown m orders ≡ answer_lines settings st shown m orders
 answered-all settings st shown m [] e = refl
@@ -25,7 +25,7 @@ answered-all settings st shown m (order ∷ rest) e =
     ap (λ (o : Option Fault). answer_then true o (shown 0).told front own (answered true settings next (later shown) (map_unless o m order) rest)) none.0
     ∙ ap (λ (lines : List Bytes). front ++ own ++ lines) (answered-all settings next (later shown) (map_after m order) rest none.1)
 
--- and a text what is in front of the first refusal, with the lines of the cleans in front of that order
+-- and a text all before the first refusal, with the lines of the cleans before that order
 pub answered-accepted : (settings : Settings) (st : Store) (shown : Reads) (m : Pairs Bytes) (orders : List Order)
     → answered false settings st shown m orders ≡ answer_lines settings st shown m (accepted settings st shown orders) ++ front_of_refused settings st shown orders
 answered-accepted settings st shown m [] = refl
@@ -41,7 +41,7 @@ answered-accepted settings st shown m (order ∷ rest) =
     own : List Bytes
     own = own_lines settings st (shown 0) m order
 
-    -- the answers of the others that are accepted, and the lines in front of one that isn't
+    -- the answers to the others that are accepted, and the lines before one that is not
     further : List Bytes
     further = answer_lines settings next (later shown) (map_after m order) (accepted settings next (later shown) rest)
 

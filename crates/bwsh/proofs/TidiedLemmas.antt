@@ -1,6 +1,6 @@
 -- Lemmas on stores that are tidied before their flushes.
 use Rattle.std.proofs.Common.{◌≡◌, ◌≢◌, ◌⊎◌, inl, inr, ℕ, List, [], ◌∷◌, ◌++◌, map, Option, Some, None, Result, Ok, Err, refl, sym, ap, ◌∙◌, subst, append_assoc}
-use Rattle.std.specs.Prelude.{Bool, true, false, ◌&&◌, if◌then◌else◌, nat_eq, is_err, IfSome, IsTrue}
+use Rattle.std.specs.Prelude.{Bool, true, false, ◌&&◌, if◌then◌else◌, nat_eq, is_err, IsTrue}
 use Rattle.std.specs.List.{flat_map}
 use Rattle.std.specs.declared.alloc.Global.{Global}
 use Rattle.std.specs.Option.{option_or}
@@ -33,7 +33,7 @@ use Rattle.bwsh.specs.declared.options.asked.Mode.{Mode}
 use Rattle.bwsh.specs.declared.session.SessionError.{SessionError}
 use Rattle.bwsh.specs.declared.session.SessionError.TheVariants as errors
 use Rattle.bwsh.specs.BatchFile.{commands_of}
-use Rattle.bwsh.specs.Session.{Batches, IsAsked, IsByBatches, MayFail, Reads, RunsOrder, Seen, Stored, Tidying, TidiesTo, answer_lines, after_order, by_batches, cleaned, cleaned_by, front_lines, compacted_if, compacting, if_it_holds, is_same_map, later, left_by, left_by_step, left_unless, map_after, no_tidying, own_lines, own_refusal, readied, refusal_of, step_in, tidied, tidied_tree, tree_of_batches}
+use Rattle.bwsh.specs.Session.{Batches, IsAsked, IsByBatches, MayFailBy, Reads, RunsOrder, Seen, Stored, Tidying, TidiesTo, answer_lines, after_order, by_batches, cleaned, cleaned_by, front_lines, compacted_if, compacting, if_it_holds, is_same_map, later, left_by, left_by_step, left_unless, map_after, no_tidying, own_lines, own_refusal, readied, refusal_of, step_in, tidied, tidied_tree, tree_of_batches}
 use Rattle.bwsh.specs.Shown.{shown_flushed, shown_reply}
 use Rattle.bwsh.proofs.Prints.{front-whole}
 use Rattle.bwsh.proofs.RunLemmas.{LeavesStored-alike, LeavesStored-unmoved, Runs-alike, all_printed, answering, committed_unless, of_clean, own_all, failing_cleans, no_cleans, none_in_front, own_printed, refusal_of-failing, refused, unrefused_by}
@@ -236,7 +236,7 @@ module _ (settings : Settings) (batches : Tidying) (under st : Store) (are : IsT
     refusal_flush_of = ap (λ (at : Stored). option_or seen.fails (own_refusal settings at Flush)) at_hand
 
 -- a flush that can fail so where flushes make themselves no room can where they do
-fails_too : (cleans : Bool) (settings : Settings) (at other : Stored) (o : Option Fault) → IfSome o (MayFail false settings at Flush) → IfSome o (MayFail cleans settings other Flush)
+fails_too : (cleans : Bool) (settings : Settings) (at other : Stored) (o : Option Fault) → MayFailBy false settings at Flush o → MayFailBy cleans settings other Flush o
 fails_too cleans settings at other None may = tt
 fails_too cleans settings at other (Some fault) (inl memory) = inl memory
 fails_too cleans settings at other (Some fault) (inr (on, frees, full, right)) = absurd (cc)

@@ -19,7 +19,7 @@ with_front_nothing (Some xs) = refl
 pub token_bytes-unescaped : (t : List ℕ) → bytes_eq t (percent ∷ []) ≡ false → nat_eq (length t) 0 ≡ false → token_bytes t ≡ unescaped t
 token_bytes-unescaped t not_percent not_empty = rw (not_percent, not_empty) refl
 
--- bytes that stand for themselves are printed so
+-- bytes that encode themselves are printed as they are
 shown-plain : (bs : List ℕ) → list_all stands_for_itself bs ≡ true → flat_map shown_byte bs ≡ bs
 shown-plain [] h = refl
 shown-plain (b ∷ bs) h =

@@ -1,4 +1,4 @@
--- What is printed is read back.
+-- Printed tokens are parsed to the same bytes.
 use Rattle.std.proofs.Common.{◌≡◌, ℕ, ◌+◌, ◌*◌, ◌/◌, ◌%◌, ◌<◌, ◌≤◌, Bool, true, false, eqb, List, [], ◌∷◌, ◌++◌, Some, refl, ap, ◌∙◌, arith}
 use Rattle.std.specs.List.{All, AllByRecursion, flat_map, list_all, slice_split}
 use Rattle.std.specs.Str.{bytes_eq}
@@ -17,7 +17,7 @@ digit_of_digit n h = grind (arith, nat_tests)
 digit_is_read : (n : ℕ) → n < 16 → hex_value (hex_digit n) ≡ Some n
 digit_is_read n h = rw (digit_of_digit n h) (grind (arith, nat_tests))
 
--- what a printed byte is, by whether it stands for itself
+-- the printed form of a byte, depending on whether it encodes itself
 self_is : (b : ℕ) → stands_for_itself b ≡ true → (eqb b 37 ≡ false) × (33 ≤ b) × (b ≤ 126)
 self_is b h = grind (arith, nat_tests)
 
@@ -26,7 +26,7 @@ front_self b [] h = rw h refl
 front_self b (d ∷ []) h = rw h refl
 front_self b (d ∷ e ∷ cs) h = rw (h, (self_is b h).0) refl
 
--- characters that all stand for themselves
+-- characters that all encode themselves
 pub unescaped-plain : (cs : List ℕ) → list_all stands_for_itself cs ≡ true → unescaped cs ≡ Some cs
 unescaped-plain [] h = refl
 unescaped-plain (c ∷ cs) h =

@@ -1,4 +1,4 @@
--- What `clap` makes of one word of the command line.
+-- The result of `clap` for one word of the command line.
 use Rattle.std.proofs.Common.{◌≡◌, ◌∙◌, ◌==◌, ◌&&◌, ◌||◌, not, ap, refl, sym, subst, ℕ, Bool, true, false, cond, List, [], ◌∷◌, length, Option, Some, None, codes}
 use Rattle.std.specs.Prelude.{slice_get}
 use Rattle.std.specs.List.{AllByRecursion, list_any}
@@ -24,7 +24,7 @@ use Rattle.bwsh.specs.CommandLine.{built_flag, bwsh, reading_at}
 abbrev pub built_help : Rule
 built_help = filled help_rule
 
--- what is so of each of some names is so of one that is among them
+-- what holds for each of some names holds for any one of them
 pub any_of : (P : Text → Type 0) (names : List Text) → AllByRecursion P names → (name : Text) → list_any (λ known. bytes_eq known name) names ≡ true → P name
 any_of P [] all name e = absurd (cc)
 any_of P (known ∷ rest) all name e = go (bytes_eq known name) refl e (any_of P rest all.1 name)
@@ -34,14 +34,14 @@ any_of P (known ∷ rest) all name e = go (bytes_eq known name) refl e (any_of P
     go true hit any later = subst P ((bytes_eq-Decides known name).0 hit) all.0
     go false other any later = later any
 
--- an option that takes nothing takes no number and no text
+-- an option without a value takes no number and no text
 pub no_number : (name : Text) → takes_nothing name ≡ true → takes_number name ≡ false
 no_number = any_of (λ name. takes_number name ≡ false) flag_names (refl, (refl, (refl, (refl, (refl, (refl, (refl, tt)))))))
 
 no_text : (name : Text) → takes_nothing name ≡ true → takes_text name ≡ false
 no_text = any_of (λ name. takes_text name ≡ false) flag_names (refl, (refl, (refl, (refl, (refl, (refl, (refl, tt)))))))
 
--- an option that takes a text, with these defaults, and checked so
+-- an option that takes a text, with these defaults and this check
 abbrev pub taking : Text → List Text → ValueParser → Rule
 taking name defaults parser = record (filled (new_rule name)) {
   long = Some name;
@@ -50,7 +50,7 @@ taking name defaults parser = record (filled (new_rule name)) {
   parser = Some parser;
 }
 
--- an option that takes a text is known by its name, and checks and reads its text as it should
+-- an option that takes a text has its name, and checks and parses its text correctly
 pub record TakesText (c : List Rule) (name : Text) : Type 0 where
   pub defaults : List Text
   pub parser : ValueParser
@@ -68,7 +68,7 @@ pub record HasOptions (c : List Rule) : Type 0 where
   pub short : (x : ℕ) → arg_by_short c x ≡ cond (104 == x) (Some built_help) None
   pub positional : arg_by_index c 1 ≡ None
 
--- the fault of an option that is given this text
+-- the fault of an option with this text
 abbrev pub given_fault : Text → Text → List Row → Kinds
 given_fault name text rows = cond (has_row name rows) (ArgumentConflict ∷ []) (cond (fits name text) [] (ValueValidation ∷ []))
 
@@ -89,11 +89,11 @@ held rows pen = record { rows = rows; pending = pen; skip = 0 }
 abbrev pub standing : List Row → Pending → Waiting → Bool → Walk
 standing rows pen waiting is_trailing = record { held = held rows pen; waiting = waiting; position = 1; is_trailing = is_trailing; stopped = None }
 
--- if the option takes nothing, this is its text
+-- if the option has no value, this is its text
 abbrev pub HasText : Text → Text → Type 0
 HasText name text = takes_nothing name ≡ true → text ≡ codes "true"
 
--- a word of this sort has this fault, and leaves the walk so
+-- a word of this kind has this fault, and gives this state of the walk
 abbrev pub TurnIs : List Rule → List Row → Pending → Waiting → Text → Kinds → Walk → Sort → Type 0
 TurnIs c rows pen waiting word kinds after (awaits name) = (takes_text name ≡ true) × (kinds ≡ settle_fault c false (held rows pen))
     × (after ≡ standing (settled_rows c pen rows) (Some (name, [])) (option name) false)
@@ -120,13 +120,13 @@ pub or_else-last : (ks : Kinds) (k : ErrorKind) (next : Kinds) → or_else (or_e
 or_else-last [] k next = refl
 or_else-last (x ∷ ks) k next = refl
 
--- an option that takes a text is none that takes nothing
+-- an option that takes a text is not one without a value
 pub not_flag_text : (name text : Text) → takes_text name ≡ true → HasText name text
 not_flag_text name text takes hit =
     let bad : false ≡ true = sym (no_text name hit) ∙ takes in
     absurd (cc)
 
--- an option that was given before, and else a text that is none for it
+-- an option that was given before, or else a text that is invalid for it
 repeat_or : (b d : Bool) → or_else (cond (b && true) (ArgumentConflict ∷ []) []) (or_else (cond d [] (ValueValidation ∷ [])) [])
     ≡ cond b (ArgumentConflict ∷ []) (cond d [] (ValueValidation ∷ []))
 repeat_or false false = refl
@@ -145,7 +145,7 @@ pub used_is : (c : List Rule) (name text : Text) (k : TakesText c name) (rows : 
     → used (taking name k.defaults k.parser) (text ∷ []) rows ≡ given_rows name text rows
 used_is c name text k rows = ap (λ (how : Reading). with_values name how CommandLine (text ∷ []) (without name rows)) k.reads
 
--- one use of an option that takes nothing
+-- one use of an option without a value
 flag_fault : (name : Text) → takes_nothing name ≡ true → (rows : List Row) → use_fault false (built_flag name) [] rows ≡ given_fault name (codes "true") rows
 flag_fault name is rows =
     repeat_or (has_row name rows) true
@@ -155,7 +155,7 @@ module _ (c : List Rule) (facts : HasOptions c) (rows : List Row) (pen : Pending
   abbrev here : Held
   here = held rows pen
 
-  -- the fault and the walk of a word that comes to this
+  -- the fault and the walk of a word with this result
   abbrev fault_with : Kinds → Held × Step → Kinds
   fault_with kinds met = or_else kinds (step_fault (shape c) 1 met.0 met.1)
 
@@ -165,7 +165,7 @@ module _ (c : List Rule) (facts : HasOptions c) (rows : List Row) (pen : Pending
   abbrev Turn : Kinds → Held × Step → Sort → Type 0
   Turn kinds met sort = TurnIs c rows pen waiting word (fault_with kinds met) (walk_with met) sort
 
-  -- what a flag with this rule, if there is one, and this text, if there is one, comes to
+  -- the result of a flag with this rule, if there is one, and this text, if there is one
   abbrev met_long : Option Rule → Option Text → Held × Step
   met_long o v = after_flag c waiting word (long_met c o v here).0 (long_met c o v here).1
 
@@ -188,7 +188,7 @@ module _ (c : List Rule) (facts : HasOptions c) (rows : List Row) (pen : Pending
       subst (λ (r : Option Rule). Turn (long_fault c false r None here) (met_long r None) (awaits name))
       e (is, or_else-none _, refl)
 
-  -- `--name` of an option that takes nothing
+  -- `--name` of an option without a value
   given_turn : (name : Text) (o : Option Rule) → takes_nothing name ≡ true → Some (built_flag name) ≡ o
       → Turn (long_fault c false o None here) (met_long o None) (gives name (codes "true"))
   given_turn name o is e =
@@ -199,7 +199,7 @@ module _ (c : List Rule) (facts : HasOptions c) (rows : List Row) (pen : Pending
         ap (λ (b : Bool). standing (with_values name (cond b WithoutMinus AsWritten) CommandLine (codes "true" ∷ []) (without name is_synced)) None idle false) (sym (no_number name is)),
       )
 
-  -- a name that there is not
+  -- an unknown name
   unknown_turn : (v : Option Text) (o : Option Rule) (met : Held × Step) → None ≡ o → Turn (long_fault c false o v here) met unknown
   unknown_turn v o met e = subst (λ (r : Option Rule). Turn (long_fault c false r v here) met unknown) e (UnknownArgument, refl, refl)
 
@@ -249,7 +249,7 @@ module _ (c : List Rule) (facts : HasOptions c) (rows : List Row) (pen : Pending
   long_turn name (Some text) = long_with name text (takes_text name) refl
   long_turn name None = long_alone name (takes_text name) refl
 
-  -- `-h`, alone or in front of more
+  -- `-h`, alone or before more characters
   short_by : (b : Bool) (o : Option Rule) (rest : Text) (next : Held → Kinds) (met : Held × Step) → cond b (Some built_help) None ≡ o
       → Turn (short_fault c false o rest here next) met (cond b asks unknown)
   short_by true o rest next met e =
@@ -284,7 +284,7 @@ module _ (c : List Rule) (facts : HasOptions c) (rows : List Row) (pen : Pending
   no_subcommand (option name) = refl
   no_subcommand positional = refl
 
-  -- what a word comes to where `--` has not been
+  -- the result of a word if there was no `--`
   pub turn_is : TurnIs c rows pen waiting word (turn_fault (shape c) [] (standing rows pen waiting false) word) (walked c [] (standing rows pen waiting false) word) (sort_of word)
   unfolding walked
   turn_is = subst (λ (o : Option Text). Turn (other_fault (shape c) o word here) (subcommand_or_other c o waiting 1 word here) (sort_of word))

@@ -35,12 +35,12 @@ module _ (p : ℕ → Bool) where
   skip_by true c cs h ih = rw (h, one-add) ih
   skip_by false c cs h ih = rw h (rw h refl)
 
-  -- what stands in front of the first byte that is no blank has no words
+  -- the part before the first byte that is not blank has no words
   skip_blanks : (xs : List ℕ) → words (drop (start xs) xs) ≡ words xs
   skip_blanks [] = refl
   skip_blanks (c ∷ cs) = skip_by (p c) c cs refl (skip_blanks cs)
 
-  -- the first part is what stands in front of the first blank
+  -- the first part is the part before the first blank
   abbrev IsFirstPart : List ℕ → Type 0
   IsFirstPart xs = (rest : List (List ℕ)) × (slice_split p (drop (end xs) xs) ≡ [] ∷ rest) × (slice_split p xs ≡ take (end xs) xs ∷ rest)
 
@@ -52,7 +52,7 @@ module _ (p : ℕ → Bool) where
   first_part [] = ([], refl, refl)
   first_part (c ∷ cs) = part_by (p c) c cs refl (first_part cs)
 
-  -- what begins with no blank begins with a word
+  -- a text that begins with no blank begins with a word
   word_in_front : (c : ℕ) (cs : List ℕ) → p c ≡ false → words (c ∷ cs) ≡ take (end (c ∷ cs)) (c ∷ cs) ∷ words (drop (end (c ∷ cs)) (c ∷ cs))
   word_in_front c cs h =
       let f = first_part (c ∷ cs) in
@@ -80,7 +80,7 @@ words_of-no_word line h = no_word is_blank line h
 pub words_of-a_word : (line : List ℕ) (i : ℕ) → position (λ c. not (is_blank c)) line ≡ Some i → (n : ℕ) → n ≡ unwrap_or (position is_blank (drop i line)) (length (drop i line)) → words_of line ≡ take n (drop i line) ∷ words_of (drop n (drop i line))
 words_of-a_word line i h n k = a_word is_blank line i h n k
 
--- the words that there are, where there is only one, and where there are two or three
+-- the words, if there is one, and if there are two or three
 pub the_only_is : (words : List (List ℕ)) (w : List ℕ) → Some w ≡ the_only words → words ≡ w ∷ []
 the_only_is [] w h = absurd (cc)
 the_only_is (v ∷ []) w h = let e : w ≡ v = cc in ap (λ (x : List ℕ). x ∷ []) (sym e)
@@ -105,7 +105,7 @@ the_three_are (x ∷ y ∷ z ∷ []) u v w h =
     ap (λ (p : List ℕ × List ℕ × List ℕ). p.0 ∷ p.1 ∷ p.2 ∷ []) (sym e)
 the_three_are (x ∷ y ∷ z ∷ t ∷ rest) u v w h = absurd (cc)
 
--- what holds of all words but two, or but three
+-- what holds for all words except two, or except three
 pub not_two : {X : Type 0} (said : List (List ℕ) → X) (bad : X) → said [] ≡ bad → ((v : List ℕ) → said (v ∷ []) ≡ bad)
     → ((v w x : List ℕ) (rest : List (List ℕ)) → said (v ∷ w ∷ x ∷ rest) ≡ bad) → (words : List (List ℕ)) → None ≡ the_two words → bad ≡ said words
 not_two said bad none one more [] h = sym none

@@ -1,4 +1,4 @@
--- Lines, and the orders that they make, all of them together.
+-- The lines of a text, and the orders that they make together.
 use Rattle.std.specs.Prelude.{◌≡◌, ◌⊎◌, ⊤, ℕ, ◌+◌, ◌&&◌, nat_lt, Bool, not, true, false, List, [], ◌∷◌, ◌++◌, map, filter, length, if◌then◌else◌, Option, Some, None}
 use Rattle.std.specs.List.{list_all}
 use Rattle.std.specs.declared.alloc.Global.{Global}
@@ -17,16 +17,16 @@ use Rattle.bwsh.specs.declared.session.SessionError.{SessionError}
 use Rattle.bwsh.specs.declared.session.SessionError.TheVariants as errors
 use Rattle.bwsh.specs.Line.{parse_line}
 
--- the pieces of a text that are lines, each with its end: in a stream those that a line feed ends, and else the last one too
+-- the parts of a text that are lines, each with its end: in a stream only parts that end with a line feed, and otherwise also the last part
 abbrev pub pieces : Bool → Bytes → List Bytes
 pieces false text = lines_of text
 pieces true text = filter (ends_with_byte 10) (lines_of text)
 
--- what the lines of a text say, in a stream or not
+-- the parsed lines of a text, in a stream or not
 abbrev pub parse_text : Bool → Bytes → List Line
 parse_text stream text = map (λ piece. parse_line stream (without_terminator piece)) (pieces stream text)
 
--- the number of the first bad line, and what is wrong with it, where the first of these lines has the number n
+-- the number of the first bad line, and why it is bad, where the first of these lines has the number n
 abbrev pub first_bad : ℕ → List Line → Option (ℕ × Why)
 first_bad n [] = None
 first_bad n (Bad why ∷ rest) = Some (n, why)
@@ -37,7 +37,7 @@ abbrev pub last_order : List (Command Global) → List Order
 last_order [] = []
 last_order (command ∷ commands) = Batch (command ∷ commands) ∷ []
 
--- what is ordered by lines that say this, none of which is bad or lost, after commands that are pending
+-- the orders of these lines, none of which is bad or lost, after the pending commands
 abbrev pub orders_of : List (Command Global) → List Line → List Order
 orders_of pending [] = last_order pending
 orders_of pending (line_variants.Command command ∷ rest) = orders_of (pending ++ command ∷ []) rest
@@ -45,7 +45,7 @@ orders_of pending (Go ∷ rest) = Batch pending ∷ orders_of [] rest
 orders_of pending (line_variants.Order order ∷ rest) = last_order pending ++ order ∷ orders_of [] rest
 orders_of pending (_ ∷ rest) = orders_of pending rest
 
--- the batch that no line has ended yet: its commands; or it was answered already, and the rest of it is skipped
+-- the batch that no line has ended yet: its commands; or it was already answered, and the rest of it is skipped
 pub data Pending : Type 0 where
   begun : List (Command Global) → Pending
   skipped : Pending
@@ -54,12 +54,12 @@ pub data Pending : Type 0 where
 abbrev pub is_too_long : Bool → List (Command Global) → Bool
 is_too_long stream commands = stream && nat_lt 65535 (length commands)
 
--- an order, and what is ordered after it; where it is the batch that is too long, its rest is skipped
+-- an order, and the orders after it; if it is a batch that is too long, the rest of the batch is skipped
 abbrev pub or_too_long : Bool → List (Command Global) → (Pending → List Order) → List Order
 or_too_long stream cs next = if is_too_long stream cs then Batch cs ∷ next skipped else next (begun cs)
 
--- What is ordered by lines that say this, the first of which has the number n, in a stream or not. A line that is bad or lost is answered at once,
--- and its batch isn't run.
+-- The orders of these lines, the first of which has the number n, in a stream or not. A line that is bad or lost is answered at once, and its batch
+-- is not run.
 abbrev pub asked : Bool → ℕ → Pending → List Line → List Order
 asked stream n (begun cs) [] = last_order cs
 asked stream n skipped [] = []
@@ -73,16 +73,16 @@ asked stream n skipped (Go ∷ rest) = asked stream (n + 1) (begun []) rest
 asked stream n skipped (line_variants.Order order ∷ rest) = order ∷ asked stream (n + 1) (begun []) rest
 asked stream n skipped (_ ∷ rest) = asked stream (n + 1) skipped rest
 
--- these, and then the order to print the numbers, where it is asked for
+-- these orders, followed by the order to print the numbers if that is asked for
 abbrev pub with_numbers : Bool → List Order → List Order
 with_numbers false orders = orders
 with_numbers true orders = orders ++ Numbers ∷ []
 
--- the orders of a session, where its lines say this
+-- the orders of a session with these lines
 abbrev pub orders_in : Bool → Bool → List Line → List Order
 orders_in stream numbers parsed = with_numbers numbers (asked stream 1 (begun []) parsed)
 
--- lines were read that say this: each is as it says, or was lost, since it found no memory
+-- these lines were read: each is as parsed, or was lost because an allocation failed
 abbrev pub AreRead : List Line → List Line → Type 0
 AreRead [] [] = ⊤
 AreRead (said ∷ rest) (got ∷ left) = ((got ≡ said) ⊎ (got ≡ line_variants.Lost)) × AreRead rest left
@@ -102,7 +102,7 @@ IsInBatch (Go ∷ rest) = ⊥
 IsInBatch (line_variants.Order order ∷ rest) = ⊥
 IsInBatch (_ ∷ rest) = IsInBatch rest
 
--- a batch, if the order is one, isn't too long for a stream
+-- if the order is a batch, it is not too long for a stream
 abbrev pub is_short_order : Bool → Order → Bool
 is_short_order stream (Batch cs) = not (is_too_long stream cs)
 is_short_order stream _ = true
@@ -110,7 +110,7 @@ is_short_order stream _ = true
 abbrev pub is_short : Bool → List Order → Bool
 is_short stream orders = list_all (is_short_order stream) orders
 
--- a session whose text has this first bad line, if it has one, can end so before anything is run
+-- a session whose text has this first bad line, if it has one, may end in this way before anything is run
 abbrev pub IsReadError : Option (ℕ × Why) → SessionError → Type 0
 IsReadError bad (errors.Words error) = ⊥
 IsReadError bad (errors.Bad line why) = bad ≡ Some (line, why)
@@ -124,7 +124,7 @@ writes Clean = true
 writes Upgrade = true
 writes _ = false
 
--- the line is such an order
+-- the line is an order that writes to the disk
 abbrev pub line_writes : Line → Bool
 line_writes (line_variants.Order order) = writes order
 line_writes _ = false
@@ -139,7 +139,7 @@ abbrev pub IsNoClean : Order → Type 0
 IsNoClean Clean = ⊥
 IsNoClean _ = ⊤
 
--- the line orders nothing but batches
+-- the only orders of the line are batches
 abbrev pub IsForBatches : Line → Type 0
 IsForBatches (line_variants.Order order) = ⊥
 IsForBatches _ = ⊤
@@ -149,13 +149,13 @@ abbrev pub commands_of : Order → List (Command Global)
 commands_of (Batch commands) = commands
 commands_of _ = []
 
--- the commands that lines say
+-- the commands of lines
 abbrev pub commands_of_lines : List Line → List (Command Global)
 commands_of_lines [] = []
 commands_of_lines (line_variants.Command command ∷ rest) = command ∷ commands_of_lines rest
 commands_of_lines (line_variants.Order order ∷ rest) = commands_of order ++ commands_of_lines rest
 commands_of_lines (_ ∷ rest) = commands_of_lines rest
 
--- what the lines of these commands and a line `go` after them say
+-- the parsed lines of these commands and of a line `go` after them
 abbrev pub batch_lines : List (Command Global) → List Line
 batch_lines commands = map (λ command. line_variants.Command command) commands ++ Go ∷ []

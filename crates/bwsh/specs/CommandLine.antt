@@ -1,4 +1,4 @@
--- The command line of `bwsh` in the terms of `clap`.
+-- The command line of `bwsh` in terms of `clap`.
 use Rattle.std.specs.Prelude.{◌≡◌, true, List, [], ◌∷◌, ◌++◌, map, Some, None, codes, pos, if◌then◌else◌}
 use Rattle.std.specs.List.{All, fold}
 use Rattle.clap.specs.Words.{App, Row, Rule, new_app, new_rule, with_rule}
@@ -39,13 +39,13 @@ with_settings app = with_rule (with_rule (with_rule (with_rule (with_rule (with_
     (number_rule (codes "max-key") (codes "64"))) (number_rule (codes "max-value") (codes "256")))
     (number_rule (codes "seg-size") (codes "65536"))) (number_rule (codes "segments") (codes "64"))
 
--- with those for the work of a session and for its files
+-- with the options for the crew and for the files
 abbrev pub with_work : App → App
 with_work app = with_rule (with_rule (with_rule (with_rule (with_rule (with_rule app
     (number_rule (codes "workers") (codes "1"))) (number_rule (codes "grain") (codes "64")))
     (number_rule (codes "tidy") (codes "0"))) (number_rule (codes "wait") (codes "0"))) (text_rule (codes "disk"))) (text_rule (codes "copy-to"))
 
--- with those that take no value
+-- with the options that take no value
 abbrev pub with_flags : App → App
 with_flags app = with_rule (with_rule (with_rule (with_rule (with_rule (with_rule (with_rule app
     (flag_rule (codes "create"))) (flag_rule (codes "version")))
@@ -69,27 +69,27 @@ number_defaults = (codes "fan", codes "16") ∷ (codes "chain", codes "4") ∷ (
     ∷ (codes "max-value", codes "256") ∷ (codes "seg-size", codes "65536") ∷ (codes "segments", codes "64")
     ∷ (codes "workers", codes "1") ∷ (codes "grain", codes "64") ∷ (codes "tidy", codes "0") ∷ (codes "wait", codes "0") ∷ []
 
--- an option of these as a parse reads it
+-- an option that takes a number, as it is parsed
 abbrev pub built_number : Text × Text → Rule
 built_number p = filled (number_rule p.0 p.1)
 
--- an option that takes a path as a parse reads it
+-- an option that takes a path, as it is parsed
 abbrev pub built_path : Text → Rule
 built_path name = filled (text_rule name)
 
--- an option that takes nothing as a parse reads it
+-- an option that takes no value, as it is parsed
 abbrev pub built_flag : Text → Rule
 built_flag name = filled (flag_rule name)
 
--- all options as a parse reads them
+-- all options, as they are parsed
 abbrev pub built_rules : List Rule
 built_rules = map built_number number_defaults ++ map built_path path_names ++ map built_flag flag_names
 
--- how the text of an option is read
+-- how the text of an option is parsed
 abbrev pub reading_at : Text → Reading
 reading_at name = if takes_number name then WithoutMinus else AsWritten
 
--- what is found for an option that was given
+-- the parsed value of an option that was given
 abbrev pub given_row : Text × Text → Row
 given_row g = record {
   id = g.0;
@@ -99,11 +99,11 @@ given_row g = record {
   reading = reading_at g.0;
 }
 
--- all that is found: what was given, and the defaults of the others
+-- all parsed values: those that were given, and the defaults of the others
 abbrev pub finished_rows : Given → List Row
 finished_rows given = fold with_default (map given_row given) built_rules
 
--- this can be given: a text that is one for the option, and that of one which takes nothing is `true`
+-- this can be given: a text that is valid for the option; for an option that takes no value, the text is `true`
 abbrev pub IsGivable : Text × Text → Type 0
 IsGivable g = (fits g.0 g.1 ≡ true) × (takes_nothing g.0 ≡ true → g.1 ≡ codes "true")
 

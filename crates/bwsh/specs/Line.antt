@@ -1,4 +1,4 @@
--- What a line of a batch file says.
+-- How a line of a batch file is parsed.
 use Rattle.std.specs.Prelude.{ℕ, Bool, ◌&&◌, List, [], ◌∷◌, Option, Some, None, Result, Ok, Err, codes, nat_eq, if◌then◌else◌}
 use Rattle.std.specs.List.{starts_with}
 use Rattle.std.specs.Option.{ok_or, option_map, option_zip}
@@ -18,65 +18,65 @@ use Rattle.bwsh.specs.Number.{number_in}
 use Rattle.bwsh.specs.Token.{token_bytes}
 use Rattle.bwsh.specs.Words.{words_of}
 
--- what is wrong with a line, in words
+-- why a line is bad, as text
 abbrev pub why_text : Why → Bytes
 why_text UnknownCommand = codes "unknown command"
 why_text WordCount = codes "wrong number of words"
 why_text BadToken = codes "bad token"
 why_text BadNumber = codes "bad number"
 
--- the key that these words are
+-- the key in these words
 abbrev pub only_key : List Bytes → Result (Bytes) Why
 only_key (key ∷ []) = ok_or (token_bytes key) BadToken
 only_key _ = Err WordCount
 
--- the key and the value that these words are
+-- the key and the value in these words
 abbrev pub key_and_value : List Bytes → Result (Bytes × Bytes) Why
 key_and_value (key ∷ value ∷ []) = ok_or (option_zip (token_bytes key) (token_bytes value)) BadToken
 key_and_value _ = Err WordCount
 
--- what is said where a command is made of this, or where this is what is wrong
+-- the line of this command, or the bad line for this reason
 abbrev pub command_or_bad : {X : Type 0} → (X → Command Global) → Result X Why → Line
 command_or_bad command (Ok x) = Line.Command (command x)
 command_or_bad command (Err why) = Bad why
 
--- the upper bound that a token stands for, if it is one: the star alone is no bound
+-- the upper bound that a token encodes, if it is valid: a single star means no bound
 abbrev pub bound_of : Bytes → Option (Option Bytes)
 bound_of token = if bytes_eq token (codes "*") then Some None else option_map (λ key. Some key) (token_bytes token)
 
--- a lower bound, an upper bound and a limit, where each of them is there
+-- a lower bound, an upper bound and a limit, if each of them is valid
 abbrev pub range_by : Option Bytes → Option (Option Bytes) → Option ℕ → Result (Bytes × Option Bytes × ℕ) Why
 range_by None hi limit = Err BadToken
 range_by (Some lo) None limit = Err BadToken
 range_by (Some lo) (Some hi) None = Err BadNumber
 range_by (Some lo) (Some hi) (Some limit) = Ok (lo, hi, limit)
 
--- the bounds and the limit that these words are
+-- the bounds and the limit in these words
 abbrev pub range_and_limit : List Bytes → Result (Bytes × Option Bytes × ℕ) Why
 range_and_limit (lo ∷ hi ∷ limit ∷ []) = range_by (token_bytes lo) (bound_of hi) (number_in limit)
 range_and_limit _ = Err WordCount
 
--- what is said by these words after `scan`
+-- the line of these words after `scan`
 abbrev pub parse_scan : List Bytes → Line
 parse_scan following = command_or_bad (λ (lo, hi, limit). Scan lo hi limit) (range_and_limit following)
 
--- what is said by a lower bound and an upper bound after `wipe`, each if it is there
+-- the line of a lower bound and an upper bound after `wipe`, if each of them is valid
 abbrev pub wipe_by : Option Bytes → Option (Option Bytes) → Line
 wipe_by None hi = Bad BadToken
 wipe_by (Some lo) None = Bad BadToken
 wipe_by (Some lo) (Some hi) = Line.Command (Wipe lo hi)
 
--- what is said by these words after `wipe`
+-- the line of these words after `wipe`
 abbrev pub parse_wipe : List Bytes → Line
 parse_wipe (lo ∷ hi ∷ []) = wipe_by (token_bytes lo) (bound_of hi)
 parse_wipe _ = Bad WordCount
 
--- this is said, where no words follow
+-- this line, if no words follow
 abbrev pub if_alone : Line → List Bytes → Line
 if_alone parsed [] = parsed
 if_alone parsed _ = Bad WordCount
 
--- what is said by this word and those after it, where it is none of a command
+-- the line of this word and the words after it, if the word is not a command
 abbrev pub parse_order : Bytes → List Bytes → Line
 parse_order word following =
     if bytes_eq word (codes "go") then if_alone Go following else (
@@ -86,19 +86,19 @@ parse_order word following =
     if bytes_eq word (codes "verify") then if_alone (line_variants.Order Verify) following else
     Bad UnknownCommand))))
 
--- what is said by a path and a number of segments after `.copy`, each if it is there
+-- the line of a path and a number of segments after `.copy`, if each of them is valid
 abbrev pub copy_by : Option Bytes → Option (Option ℕ) → Line
 copy_by None segments = Bad BadToken
 copy_by (Some path) None = Bad BadNumber
 copy_by (Some path) (Some segments) = line_variants.Order (Copy path segments)
 
--- what is said by these words after `.copy`
+-- the line of these words after `.copy`
 abbrev pub parse_copy : List Bytes → Line
 parse_copy (path ∷ []) = copy_by (token_bytes path) (Some None)
 parse_copy (path ∷ segments ∷ []) = copy_by (token_bytes path) (option_map (λ n. Some n) (number_in segments))
 parse_copy _ = Bad WordCount
 
--- what is said by these words after `.tidy`
+-- the line of these words after `.tidy`
 abbrev pub tidy_by : Option ℕ → Line
 tidy_by None = Bad BadNumber
 tidy_by (Some most) = line_variants.Order (Tidy most)
@@ -107,7 +107,7 @@ abbrev pub parse_tidy : List Bytes → Line
 parse_tidy (most ∷ []) = tidy_by (number_in most)
 parse_tidy _ = Bad WordCount
 
--- what is said by these words after `.back`: they are those after `scan`
+-- the line of these words after `.back`: they are those after `scan`
 abbrev pub back_of : Result (Bytes × Option Bytes × ℕ) Why → Line
 back_of (Ok (lo, hi, limit)) = line_variants.Order (Back lo hi limit)
 back_of (Err why) = Bad why
@@ -115,18 +115,18 @@ back_of (Err why) = Bad why
 abbrev pub parse_back : List Bytes → Line
 parse_back following = back_of (range_and_limit following)
 
--- what is said by the first bytes of keys and a limit after `.prefix`, each if it is there
+-- the line of a prefix and a limit after `.prefix`, if each of them is valid
 abbrev pub prefix_by : Option Bytes → Option ℕ → Line
 prefix_by None limit = Bad BadToken
 prefix_by (Some bytes) None = Bad BadNumber
 prefix_by (Some bytes) (Some limit) = line_variants.Order (Prefix bytes limit)
 
--- what is said by these words after `.prefix`
+-- the line of these words after `.prefix`
 abbrev pub parse_prefix : List Bytes → Line
 parse_prefix (bytes ∷ limit ∷ []) = prefix_by (token_bytes bytes) (number_in limit)
 parse_prefix _ = Bad WordCount
 
--- what is said by this word, which begins with a dot, and those after it
+-- the line of this word, which begins with a dot, and the words after it
 abbrev pub parse_dot : Bytes → List Bytes → Line
 parse_dot word following =
     if bytes_eq word (codes ".stat") then if_alone (line_variants.Order Stat) following else (
@@ -137,7 +137,7 @@ parse_dot word following =
     if bytes_eq word (codes ".prefix") then parse_prefix following else
     Bad UnknownCommand)))))
 
--- what is said by this word and those after it; words that begin with a dot are known in a stream
+-- the line of this word and the words after it; words that begin with a dot are known only in a stream
 abbrev pub parse_command : Bool → Bytes → List Bytes → Line
 parse_command dots word following =
     if bytes_eq word (codes "put") then command_or_bad (λ (k, v). Put k v) (key_and_value following) else (
@@ -149,11 +149,11 @@ parse_command dots word following =
     if dots && starts_with nat_eq word (codes ".") then parse_dot word following else
     parse_order word following)))))
 
--- what a line of these words says: nothing where there are none, or where the first begins with `#`
+-- the line of these words: blank if there are none, or if the first word begins with `#`
 abbrev pub parse_words : Bool → List Bytes → Line
 parse_words dots [] = Blank
 parse_words dots (word ∷ following) = if starts_with nat_eq word (codes "#") then Blank else parse_command dots word following
 
--- what the line says, in a stream or not
+-- the parsed line, in a stream or not
 abbrev pub parse_line : Bool → Bytes → Line
 parse_line dots line = parse_words dots (words_of line)

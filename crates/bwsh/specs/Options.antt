@@ -1,4 +1,4 @@
--- What the words of the command line ask for.
+-- The meaning of the words of the command line.
 use Rattle.std.specs.Prelude.{◌≡◌, ◌⊎◌, ◌==◌, ◌||◌, ◌&&◌, ℕ, Bool, true, false, not, List, [], ◌∷◌, ◌++◌, Option, Some, None, if◌then◌else◌, unwrap_or, option_map, find, slice_get, map, string_bytes, String, codes, pos}
 use Rattle.std.specs.List.{list_any}
 use Rattle.std.specs.Str.{bytes_eq, chars}
@@ -52,20 +52,19 @@ flag_names = codes "create" ∷ codes "version" ∷ codes "explain" ∷ codes "s
 abbrev pub takes_nothing : Text → Bool
 takes_nothing name = list_any (λ known. bytes_eq known name) flag_names
 
--- the text is a whole number from 0 to 4294967295, in digits after a sign or none
+-- the text is an integer from 0 to 4294967295, in digits with an optional sign
 abbrev pub is_number : Text → Bool
 is_number text = is_signed_in (pos 0) (pos 4294967295) text
 
--- the text is one for the option: where that takes a number, it is a number
+-- the text is valid for the option: if the option takes a number, the text is a number
 abbrev pub fits : Text → Text → Bool
 fits name text = not (takes_number name) || is_number text
 
--- the number that a text with or without a sign writes
+-- the number that a text with an optional sign denotes
 abbrev pub number_of : Text → ℕ
 number_of text = digits_value 10 (without_leading_sign text)
 
--- what a word is: an option whose text is the next word, an option with its text, a call for help, the word `--`, no flag
--- at all, or a flag that there is not
+-- the kind of a word: an option whose text is the next word, an option with its text, a request for help, the word `--`, no flag, or an unknown flag
 pub data Sort : Type 0 where
   awaits : Text → Sort
   gives : Text → Text → Sort
@@ -74,7 +73,7 @@ pub data Sort : Type 0 where
   plain : Sort
   unknown : Sort
 
--- `--name` of what takes no text: an option that takes nothing is as one with the text `true`
+-- `--name` of an option without text: such an option counts as one with the text `true`
 abbrev pub sort_of_flag : Text → Sort
 sort_of_flag name = if takes_nothing name then gives name (codes "true") else (if bytes_eq (codes "help") name then asks else unknown)
 
@@ -83,18 +82,18 @@ abbrev pub sort_of_long : Text → Option Text → Sort
 sort_of_long name (Some text) = if takes_text name then gives name text else unknown
 sort_of_long name None = if takes_text name then awaits name else sort_of_flag name
 
--- `-x`, by the first character after the hyphen, where only `h` (104) is known; in a text there always is one
+-- `-x`, by the first character after the hyphen, of which only `h` (104) is known; a text always has one
 abbrev pub sort_of_short : Option ℕ → Sort
 sort_of_short None = plain
 sort_of_short (Some first) = if 104 == first then asks else unknown
 
--- by what follows two hyphens, or else one; what follows none is no flag
+-- by the text after two hyphens, or else after one; a word of one hyphen is no flag
 abbrev pub sort_by : Option (Text × Option Text) → Option Text → Sort
 sort_by (Some long) short = sort_of_long long.0 long.1
 sort_by None (Some short) = sort_of_short (slice_get (chars short) 0)
 sort_by None None = plain
 
--- the sort of a word
+-- the kind of a word
 abbrev pub sort_of : Text → Sort
 sort_of word = if bytes_eq word (codes "--") then ends else sort_by (long_of word) (short_of word)
 
@@ -106,13 +105,13 @@ Given = List (Text × Text)
 abbrev pub is_given : Text → Given → Bool
 is_given name given = list_any (λ g. bytes_eq g.0 name) given
 
--- what words come to: options, help, or a refusal
+-- the result of parsing words: options, help, or a refusal
 pub data Asked : Type 0 where
   options : Given → Asked
   help : Asked
   refused : Asked
 
--- an option is given its text, and the rest comes to what `next` says; no option is given twice, or a text that is none for it
+-- an option gets its text, and the rest has the result `next`; no option may be given twice, or with an invalid text
 abbrev pub taken : Text → Text → Given → (Given → Asked) → Asked
 taken name text given next = if is_given name given then refused
     else (if fits name text then next (given ++ (name, text) ∷ []) else refused)
@@ -122,7 +121,7 @@ abbrev pub at_end : List Text → Given → Asked
 at_end [] given = options given
 at_end (word ∷ rest) given = refused
 
--- a word where no option waits for its text, and one where this option does, and so takes the word
+-- a word when no option is waiting for its text, and a word when an option is, which takes the word as its text
 abbrev pub asked_by : Option Text → Sort → Text → List Text → Given → (Option Text → Given → Asked) → Asked
 asked_by None (awaits name) word rest given next = next (Some name) given
 asked_by None (gives name text) word rest given next = taken name text given (next None)
@@ -133,21 +132,21 @@ asked_by None unknown word rest given next = refused
 asked_by (Some name) plain word rest given next = taken name word given (next None)
 asked_by (Some name) _ word rest given next = refused
 
--- what the words come to, after what was given before, where this option waits for its text or none does
+-- the result of the words, after these options were given, where this option, if any, is waiting for its text
 abbrev pub asked_from : List Text → Option Text → Given → Asked
 asked_from [] None given = options given
 asked_from [] (Some name) given = refused
 asked_from (word ∷ rest) waiting given = asked_by waiting (sort_of word) word rest given (asked_from rest)
 
--- what the words of the command line come to
+-- the result of parsing the words of the command line
 abbrev pub asked : List Text → Asked
 asked words = asked_from words None []
 
--- the number that was given for the option, else this one
+-- the number that was given for the option, or this default
 abbrev pub number_or : ℕ → Text → Given → ℕ
 number_or default name given = unwrap_or (option_map (λ g. number_of g.1) (find (λ g. bytes_eq g.0 name) given)) default
 
--- the settings of what was given
+-- the settings that were given
 abbrev pub settings_of : Given → Settings
 settings_of given = record {
   fan = number_or 16 (codes "fan") given;
@@ -158,7 +157,7 @@ settings_of given = record {
   segments = number_or 64 (codes "segments") given;
 }
 
--- the crew of what was given
+-- the crew that was given
 abbrev pub crew_of : Given → Crew
 crew_of given = record { workers = number_or 1 (codes "workers") given; grain = number_or 64 (codes "grain") given }
 
@@ -166,7 +165,7 @@ crew_of given = record { workers = number_or 1 (codes "workers") given; grain = 
 abbrev pub path_of : Text → Given → Option Text
 path_of name given = option_map (λ g. g.1) (find (λ g. bytes_eq g.0 name) given)
 
--- the ways of what was given
+-- the mode that was given
 abbrev pub mode_of : Given → Mode
 mode_of given = record {
   version = is_given (codes "version") given;
@@ -179,8 +178,8 @@ mode_of given = record {
   progress = is_given (codes "progress") given;
 }
 
--- what words ask for: the six settings, the crew, the file in which the store is, if it is in one, whether that file is made anew, the new
--- file into which the store is copied, if it is, and in which ways the session differs from a plain one
+-- what words ask for: the six settings; the crew; the file of the store, if there is one; whether that file is created; the new file to which the
+-- store is copied, if there is one; and the mode of the session
 pub record Request : Type 0 where
   pub settings : Settings
   pub crew : Crew
@@ -189,7 +188,7 @@ pub record Request : Type 0 where
   pub copy_to : Option Text
   pub mode : Mode
 
--- what was given asks for this
+-- the given options ask for this
 abbrev pub request_by : Given → Request
 request_by given = record {
   settings = settings_of given;
@@ -204,7 +203,7 @@ request_by given = record {
 abbrev pub AsksFor : List Text → Request → Type 0
 AsksFor words request = (given : Given) × (asked words ≡ options given) × (request ≡ request_by given)
 
--- what the options of the code say, as text
+-- the options of the code, as text
 abbrev pub request_of : Options → Request
 request_of o = record {
   settings = o.settings;
@@ -235,15 +234,15 @@ AsksToExplain words = (request : Request) × AsksFor words request × (request.m
 abbrev pub AsksToStream : List Text → Type 0
 AsksToStream words = (request : Request) × AsksFor words request × (request.mode.stream ≡ true)
 
--- in these ways a session writes to standard error while it runs
+-- in this mode a session writes to standard error while it runs
 abbrev pub reports : Mode → Bool
 reports mode = mode.progress || (mode.stream && mode.explain)
 
--- the words ask for that
+-- the words ask for such a mode
 abbrev pub AsksForReports : List Text → Type 0
 AsksForReports words = (request : Request) × AsksFor words request × (reports request.mode ≡ true)
 
--- the words ask for a text, and for nothing to be read: for help, or for the version
+-- the words only ask for a text to be printed, and nothing is read: the help, or the version
 abbrev pub AsksForText : List Text → Type 0
 AsksForText words = AsksForHelp words ⊎ AsksForVersion words
 
@@ -251,7 +250,7 @@ AsksForText words = AsksForHelp words ⊎ AsksForVersion words
 abbrev pub AreRefused : List Text → Type 0
 AreRefused words = asked words ≡ refused
 
--- the kind of an error that says what is wrong with the words
+-- the kind of an error that reports what is wrong with the words
 abbrev pub is_refusal : ErrorKind → Bool
 is_refusal InvalidValue = true
 is_refusal UnknownArgument = true
@@ -260,7 +259,7 @@ is_refusal TooManyValues = true
 is_refusal ArgumentConflict = true
 is_refusal _ = false
 
--- an error of this kind is right for the words: memory was refused, help was asked for, or the words are refused
+-- an error of this kind is possible for the words: an allocation failed, help was asked for, or the words are refused
 abbrev pub IsRightKind : List Text → ErrorKind → Type 0
 IsRightKind words kind = (kind ≡ OutOfMemory)
     ⊎ ((kind ≡ DisplayHelp) × AsksForHelp words)

@@ -1,4 +1,4 @@
--- Replies, sequence numbers, head segments and reports as they are printed.
+-- How replies, sequence numbers, head segments and reports are printed.
 use Rattle.std.specs.Prelude.{ℕ, List, [], ◌∷◌, ◌++◌, map, length, flat_map, codes}
 use Rattle.std.specs.Fmt.{decimal}
 use Rattle.keys.specs.Bytes.{Bytes, Pairs}
@@ -13,7 +13,7 @@ use Rattle.bwsh.specs.declared.show.NumberLine.{NumberLine}
 use Rattle.bwsh.specs.declared.show.NumberLine.TheVariants as number_lines
 use Rattle.bwsh.specs.Token.{shown_token}
 
--- what the first line of a reply says
+-- the first line of a reply
 abbrev pub reply_text : {A : Type 0} → Reply A → Bytes
 reply_text (Value v) = codes "value " ++ shown_token v
 reply_text Missing = codes "missing"
@@ -29,7 +29,7 @@ reply_text (Wiped count) = codes "wiped " ++ decimal count
 abbrev pub shown_row : Bytes × Bytes → Bytes
 shown_row row = shown_token row.0 ++ 32 ∷ shown_token row.1 ++ 10 ∷ []
 
--- the lines of a reply's rows; only one to a scan has any
+-- the lines of a reply's rows; only a reply to a scan has any
 abbrev pub row_lines : {A : Type 0} → Reply A → Bytes
 row_lines (Rows rows) = flat_map shown_row rows
 row_lines _ = []
@@ -42,7 +42,7 @@ shown_reply reply = reply_text reply ++ 10 ∷ row_lines reply
 abbrev pub shown_rows : Pairs Bytes → Bytes
 shown_rows rows = codes "rows " ++ decimal (length rows) ++ 10 ∷ flat_map shown_row rows
 
--- the line of pages that were freed, and that of pairs that were copied
+-- the line with the number of freed pages, and the line with the number of copied pairs
 abbrev pub shown_tidied : ℕ → Bytes
 shown_tidied pages = codes "tidied " ++ decimal pages ++ 10 ∷ []
 
@@ -67,8 +67,8 @@ help_lines =
 abbrev pub shown_report : Report → Bytes
 shown_report report = codes "ok " ++ decimal report.pages ++ 32 ∷ decimal report.height ++ 32 ∷ decimal report.pairs ++ 10 ∷ []
 
--- the line of the numbers of a store: the sequence number, the head and the tail of the log, how many of its segments are in use of how
--- many, and the pages and the pairs of the tree, with the line feed
+-- the line of the numbers of a store: the sequence number, the head and the tail of the log, the number of segments in use and of all segments, and
+-- the numbers of pages and of pairs of the tree, with the line feed
 abbrev pub shown_numbers : StoreNumbers → Bytes
 shown_numbers n =
     codes "stat sequence " ++ decimal n.sequence ++ codes " head " ++ decimal n.head ++ codes " tail " ++ decimal n.tail
@@ -87,7 +87,7 @@ shown_cleaned head = codes "cleaned " ++ decimal head ++ 10 ∷ []
 abbrev pub shown_upgraded : ℕ → Bytes
 shown_upgraded sequence = codes "upgraded " ++ decimal sequence ++ 10 ∷ []
 
--- the lines of an answer; those of a reply are one text
+-- the lines of an answer; the lines of a reply are one text
 abbrev pub shown_answer : {A : Type 0} → Answer A → List Bytes
 shown_answer (Replies replies) = map shown_reply replies
 shown_answer (Flushed sequence) = shown_flushed sequence ∷ []

@@ -1,4 +1,4 @@
--- The source of a session's orders: the lines that it reads, and what is still to come of it.
+-- The source of a session's orders: the lines that it reads, and the orders that are still to come.
 use Rattle.std.specs.Prelude.{◌≡◌, ◌⊎◌, ◌+◌, ◌||◌, ℕ, Bool, not, true, false, nat_eq, List, [], ◌∷◌, ◌++◌, if◌then◌else◌, option_to_list, Option, Some, None, IfSome, OnSome}
 use Rattle.std.specs.Io.{StopsAt}
 use Rattle.std.specs.Io.KnownBytes.{Consumes, IsAtEnd}
@@ -12,30 +12,30 @@ use Rattle.bwsh.specs.BatchFile.{AreRead, Pending, asked, last_order, parse_text
 use Rattle.bwsh.specs.BatchFile.Pending.{begun, skipped}
 use Rattle.bwsh.specs.Line.{parse_line}
 
--- bytes up to a line feed are a line, where this is the last of them: in a stream only if it is a line feed
+-- whether bytes up to a line feed are a line, where this is the last byte: in a stream only if it is a line feed
 abbrev pub is_line : Bool → Option ℕ → Bool
 is_line stream None = false
 is_line stream (Some byte) = not stream || nat_eq byte 10
 
--- such bytes were parsed: this is what they say, or it was lost, if they are a line
+-- such bytes were parsed: if they are a line, this is the parsed line, or it was lost
 abbrev pub IsParsed : Bool → Bytes → Option Line → Type 0
 IsParsed stream bytes None = is_line stream (last_byte_of bytes) ≡ false
 IsParsed stream bytes (Some line) =
     (is_line stream (last_byte_of bytes) ≡ true) × ((line ≡ parse_line stream (without_terminator bytes)) ⊎ (line ≡ line_variants.Lost))
 
--- the next line of known bytes says this, and these are left; or it was lost; or there is no line
+-- the next line of known bytes is this one, and these bytes remain; or it was lost; or there is no line
 abbrev pub IsRead : Bool → Option Bytes → Option Bytes → Option Line → Type 0
 IsRead stream known left None = IfSome known (λ text. parse_text stream text ≡ [])
 IsRead stream known left (Some line) =
     IfSome known (λ text. (said : Line) × (rest : Bytes) × (left ≡ Some rest) × (parse_text stream text ≡ said ∷ parse_text stream rest)
     × ((line ≡ said) ⊎ (line ≡ line_variants.Lost)))
 
--- bytes of a line were skipped, of which this is the last; or none, since none were left
+-- bytes of a line were skipped, the last of which is this one; or none, because none remained
 abbrev pub IsSkipped : Option Bytes → Option Bytes → Option ℕ → Type 0
 IsSkipped known left last =
     (bytes : Bytes) × Consumes known left bytes × StopsAt bytes 10 × (last ≡ last_byte_of bytes) × (last ≡ None → OnSome known (IsAtEnd left))
 
--- a line was read or not, and nothing else was done
+-- a line was read or not, and nothing else happened
 abbrev pub IsKept : {I : Type 0} → Source I → Source I → Type 0
 IsKept old new =
     (new.is_stream ≡ old.is_stream) × (new.batch ≡ old.batch) × (new.is_discarded ≡ old.is_discarded) × (new.queued ≡ old.queued)
@@ -50,26 +50,26 @@ IsBatched old new =
 abbrev pub pending_of : {I : Type 0} → Source I → Pending
 pending_of s = if s.is_discarded then skipped else begun s.batch
 
--- what is ordered where no more lines come, after a batch that no line has ended
+-- the orders if no more lines come, after a batch that no line has ended
 abbrev pub unended : Pending → List Order
 unended (begun commands) = last_order commands
 unended skipped = []
 
--- the orders that are still to come where the next lines say this
+-- the orders that are still to come if the next lines are these
 abbrev pub to_come : {I : Type 0} → Source I → List Line → List Order
 to_come s parsed =
     option_to_list s.queued ++ (if s.is_at_end then [] else asked s.is_stream (s.number + 1) (pending_of s) parsed ++ option_to_list s.last)
 
--- these can still come, where this is known of what is left to read: each line of it as it says, or lost
+-- these orders can still come, if this is known of the remaining input: each line of it as parsed, or lost
 abbrev pub IsToCome : {I : Type 0} → (I → Option Bytes) → Source I → List Order → Type 0
 IsToCome known s orders = (parsed : List Line) × IfSome (known s.input) (λ text. AreRead (parse_text s.is_stream text) parsed) × (orders ≡ to_come s parsed)
 
--- this is the next order, in front of any that can still come after it; or there is none, and none can come
+-- this is the next order, before any that can still come after it; or there is none, and none can come
 abbrev pub IsNext : {I : Type 0} → (I → Option Bytes) → Source I → Source I → Option Order → Type 0
 IsNext known old new None = IsToCome known old []
 IsNext known old new (Some order) = (rest : List Order) → IsToCome known new rest → IsToCome known old (order ∷ rest)
 
--- What a line orders is this order, if one, and then what was queued. The line that was read is what counts, or a lost one in its place.
+-- The orders of a line are this order, if there is one, and then the queued one. The line that was read counts, or a lost one in its place.
 abbrev pub Orders : {I : Type 0} → Source I → Source I → Line → Option Order → Type 0
 Orders old new line order =
     (got : Line) × ((got ≡ line) ⊎ (got ≡ line_variants.Lost))

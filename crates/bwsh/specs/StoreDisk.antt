@@ -1,10 +1,10 @@
--- A disk that is one or the other: it is as the one that it is.
+-- A disk that is one of two disks, and behaves like it.
 use Rattle.std.specs.Prelude.{ℕ, IsTrue}
 use Rattle.flush_log.specs.Disk.{View, Lawful}
 use Rattle.bwsh.specs.declared.disk.Base.{Base}
 use Rattle.bwsh.specs.declared.disk.Base.TheVariants.{Memory, File}
 
--- what it is now
+-- its current state
 abbrev pub view_of : {M F : Type 0} → (M → View) → (F → View) → Base M F → View
 view_of memory file (Memory disk) = memory disk
 view_of memory file (File disk) = file disk
@@ -14,7 +14,7 @@ abbrev pub failed_of : {M F : Type 0} → (M → ℕ) → (F → ℕ) → Base M
 failed_of memory file (Memory disk) = memory disk
 failed_of memory file (File disk) = file disk
 
--- where both are lawful, so is it; this is proved here, since the implementation of `Disk` can cite nothing else
+-- if both are lawful, so is this disk; this is proved here, because the implementation of `Disk` can cite nothing else
 pub lawful_of : {M F : Type 0} (memory : M → View) (file : F → View)
     → ((disk : M) → IsTrue (memory disk).is_honest → Lawful (memory disk))
     → ((disk : F) → IsTrue (file disk).is_honest → Lawful (file disk))

@@ -1,4 +1,4 @@
--- Tokens: how the words of a batch file stand for byte strings.
+-- Tokens: how the words of a batch file encode byte strings.
 use Rattle.std.specs.Prelude.{ℕ, ◌+◌, ◌*◌, ◌/◌, ◌%◌, Bool, not, ◌&&◌, ◌==◌, nat_lt, if◌then◌else◌, [], ◌∷◌, ◌++◌, length, Option, Some, None}
 use Rattle.std.specs.List.{flat_map}
 use Rattle.std.specs.Str.{bytes_eq}
@@ -6,7 +6,7 @@ use Rattle.std.specs.Option.{option_map, option_zip}
 use Rattle.std.specs.Char.{digit_value, is_digit, is_ascii_graphic}
 use Rattle.keys.specs.Bytes.{Bytes}
 
--- the sign that two hexadecimal digits follow, and that alone is the empty string
+-- the character before two hexadecimal digits, which alone encodes the empty string
 abbrev pub percent : ℕ
 percent = 37
 
@@ -18,30 +18,30 @@ hex_value c = if is_digit c 16 then Some (digit_value c) else None
 abbrev pub stands_for_itself : ℕ → Bool
 stands_for_itself c = is_ascii_graphic c && not (c == percent)
 
--- the byte that a character alone stands for
+-- the byte that a single character encodes
 abbrev pub own_byte : ℕ → Option ℕ
 own_byte c = if stands_for_itself c then Some c else None
 
--- the byte that two hexadecimal digits stand for
+-- the byte that two hexadecimal digits encode
 abbrev pub hex_byte : ℕ → ℕ → Option ℕ
 hex_byte high low = option_map (λ (h, l). 16 * h + l) (option_zip (hex_value high) (hex_value low))
 
--- the byte and then the bytes, where both are there
+-- the byte followed by the bytes, if there are both
 abbrev pub byte_in_front : Option ℕ → Option Bytes → Option Bytes
 byte_in_front b bs = option_map (λ (x, xs). x ∷ xs) (option_zip b bs)
 
--- the first bytes and then the others, where those are there
+-- the first bytes followed by the others, if there are both
 abbrev pub with_front : Bytes → Option Bytes → Option Bytes
 with_front front bs = option_map (λ xs. front ++ xs) bs
 
--- what characters stand for: a percent sign and the two after it for one byte, any other for itself
+-- the bytes that characters encode: a percent sign and the two characters after it encode one byte, any other character encodes itself
 abbrev pub unescaped : Bytes → Option Bytes
 unescaped [] = Some []
 unescaped (c ∷ []) = byte_in_front (own_byte c) (Some [])
 unescaped (c ∷ d ∷ []) = byte_in_front (own_byte c) (unescaped (d ∷ []))
 unescaped (c ∷ d ∷ e ∷ cs) = if c == percent then byte_in_front (hex_byte d e) (unescaped cs) else byte_in_front (own_byte c) (unescaped (d ∷ e ∷ cs))
 
--- the bytes that a token stands for, if it is one: the percent sign alone is the empty string
+-- the bytes that a token encodes, if it is valid: a single percent sign encodes the empty string
 abbrev pub token_bytes : Bytes → Option Bytes
 token_bytes t = if bytes_eq t (percent ∷ []) then Some [] else (if length t == 0 then None else unescaped t)
 
@@ -49,7 +49,7 @@ token_bytes t = if bytes_eq t (percent ∷ []) then Some [] else (if length t ==
 abbrev pub hex_digit : ℕ → ℕ
 hex_digit n = if nat_lt n 10 then 48 + n else 55 + n
 
--- a byte as it is printed: escaped only where it does not stand for itself
+-- a byte as it is printed: escaped unless its character encodes it
 abbrev pub shown_byte : ℕ → Bytes
 shown_byte b = if stands_for_itself b then b ∷ [] else percent ∷ hex_digit (b / 16) ∷ hex_digit (b % 16) ∷ []
 

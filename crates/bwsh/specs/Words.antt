@@ -7,26 +7,26 @@ use Rattle.keys.specs.Bytes.{Bytes}
 abbrev pub is_blank : ℕ → Bool
 is_blank c = (c == 32) || (c == 9)
 
--- whether there is anything in it
+-- whether it is not empty
 abbrev pub is_word : Bytes → Bool
 is_word [] = false
 is_word (c ∷ cs) = true
 
--- the parts of a line between its blanks that are not empty
+-- the nonempty parts of a line between its blanks
 abbrev pub words_of : Bytes → List Bytes
 words_of line = filter is_word (slice_split is_blank line)
 
--- the word, where it is the only one
+-- the word, if it is the only one
 abbrev pub the_only : List Bytes → Option Bytes
 the_only (word ∷ []) = Some word
 the_only _ = None
 
--- the two words, where there are no others
+-- the two words, if there are no others
 abbrev pub the_two : List Bytes → Option (Bytes × Bytes)
 the_two (first ∷ second ∷ []) = Some (first, second)
 the_two _ = None
 
--- the three words, where there are no others
+-- the three words, if there are no others
 abbrev pub the_three : List Bytes → Option (Bytes × Bytes × Bytes)
 the_three (first ∷ second ∷ third ∷ []) = Some (first, second, third)
 the_three _ = None

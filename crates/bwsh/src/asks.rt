@@ -10,7 +10,7 @@ ghost use Rattle.scan.specs.Prefix.{with_prefix};
 ghost use Rattle.verify.specs.Report.{report};
 ghost use Rattle.bwsh.specs.declared.order.Order.TheVariants as orders;
 ghost use Rattle.bwsh.specs.Output.{IsBegun, Puts, Writes};
-ghost use Rattle.bwsh.specs.Session.{Holds, IsCopyEnd, IsUncopied, OrderRuns, OrdersAnswered, OrdersRun, Stays, copy_settings, device_line, error_text, fault_line, numbers_of};
+ghost use Rattle.bwsh.specs.Session.{Holds, IsCopyEnd, IsCopyMade, IsUncopied, OrderRuns, OrdersAnswered, OrdersRun, Stays, copy_settings, device_line, error_text, fault_line, numbers_of};
 ghost use Rattle.bwsh.specs.Shown.{shown_row, shown_rows};
 
 use crate::context::Session;
@@ -242,7 +242,8 @@ fn copy_asked<R: Threads + Sync + Files + Clock, P: Observer, D: Disk>(
 ) -> Result<(), SessionError>
 where
     R::File: LockFile,
-    ensures { IfErr result (λ early. IsUncopied (Some settings) early
+    ensures copied { OnOk result (IsCopyMade settings (contents store.now.store.tree)) }
+    ensures refused { IfErr result (λ early. IsUncopied (Some settings) early
         ⊎ IsCopyEnd settings (contents store.now.store.tree) early) }
 {
     let copy = begin_asked(at, path, settings)?;

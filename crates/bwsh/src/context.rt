@@ -8,7 +8,7 @@ use crate::progress::Observer;
 use engine::{BadCrew, Crew};
 use std::alloc::Global;
 
-/// What each call of the store takes, and the mode of the session. The crew is in range.
+/// The arguments of each call of the store, and the mode of the session. The crew is in range.
 #[derive(Drop)]
 pub struct Context<'a, R> {
     pub rt: &'a R,

@@ -7,8 +7,9 @@ ghost use Rattle.mapping.specs.Levels.{contents};
 ghost use Rattle.flush_log.specs.Disk.{IsSynced};
 ghost use Rattle.flush_log.specs.Segments.{disk_size};
 ghost use Rattle.recovery.specs.StoreOfDisk.{store_of_disk};
+ghost use Rattle.engine.specs.Copies.{HoldsCopy, IsCopied};
 ghost use Rattle.bwsh.specs.Options.{copy_of, request_of};
-ghost use Rattle.bwsh.specs.Session.{CopiesTo, IsCopyEnd, IsUncopied};
+ghost use Rattle.bwsh.specs.Session.{CopiesTo, IsCopyEnd, IsCopyMade, IsUncopied};
 
 use crate::context::Session;
 use crate::disk::{Base, LastError, StoreDisk};
@@ -158,8 +159,10 @@ fn copy_store<R: Threads + Sync, P: Observer, D: Disk, E: Disk>(
 ) -> Result<Store<E>, (SessionError, E)>
     requires good { first_bad_field settings ≡ None }
     requires room { disk_size settings ≤ (E.view disk).size }
-    // The copy holds the same pairs as `store`. If the disk keeps what was synced, its bytes encode
-    // the copy.
+    // The copy holds the same pairs as `store`: it is what puts of these pairs and a flush leave of
+    // a new store. If the disk keeps what was synced, its bytes encode the copy.
+    ensures exact { IfOk result (λ copy.
+        IsCopied settings (contents store.now.store.tree) copy.store) }
     ensures made { IfOk result (λ copy.
         (copy.settings ≡ settings) × (copy.has_failed ≡ false)) }
     ensures contents { IfOk result (λ copy.
@@ -176,20 +179,24 @@ fn copy_store<R: Threads + Sync, P: Observer, D: Disk, E: Disk>(
     }
 }
 
-// Copies the store to a disk, as `copy_store` does, and closes the copy.
-fn fill_disk<R: Threads + Sync, P: Observer, D: Disk, E: Disk + Drop>(
+// Copies the store to a disk, as `copy_store` does, and closes the copy. Returns the disk.
+fn fill_disk<R: Threads + Sync, P: Observer, D: Disk, E: Disk>(
     at: &Session<'_, R, P>,
     store: &Store<D>,
     disk: E,
     settings: Settings,
-) -> Result<(), (SessionError, E)>
+) -> Result<E, (SessionError, E)>
     requires good { first_bad_field settings ≡ None }
     requires room { disk_size settings ≤ (E.view disk).size }
+    ensures copied { OnOk result (IsCopyMade settings (contents store.now.store.tree)) }
+    ensures holds { IsTrue (E.view disk).is_honest → IfOk result (λ left.
+        HoldsCopy settings (contents store.now.store.tree) (E.view left).seen
+        × IsSynced (E.view left)) }
     ensures refused { IfErr result
         (λ e. IsCopyEnd settings (contents store.now.store.tree) e.0) }
 {
     match copy_store(at, store, disk, settings) {
-        Ok(_copy) => Ok(()),
+        Ok(copy) => Ok(copy.close()),
         Err(refused) => Err(refused),
     }
 }
@@ -214,6 +221,7 @@ pub(crate) fn copy_into<R: Threads + Sync, P: Observer, D: Disk, F>(
 where
     F: Read + Write + Seek + OpenFile + LockFile + Drop,
     requires good { first_bad_field copy.settings ≡ None }
+    ensures copied { OnOk result (IsCopyMade copy.settings (contents store.now.store.tree)) }
     ensures refused { IfErr result
         (IsCopyEnd copy.settings (contents store.now.store.tree)) }
 {
@@ -221,7 +229,7 @@ where
     let disk = at.copy_failed(disk_with_room(file, &settings))?;
     let disk: StoreDisk<'_, F, P> = at.disk(Base::File(disk));
     match fill_disk(at, store, disk, settings) {
-        Ok(()) => Ok(()),
+        Ok(_holds_the_copy) => Ok(()),
         Err((error, disk)) => {
             abandon_copy(at, disk);
             Err(error)

@@ -13,9 +13,9 @@ use std::io::{ErrorKind, Read, Seek, Write};
 // The byte offset of the first segment. Calls for the header before it are not counted.
 const SEGMENTS_BEGIN: u64 = 512;
 
-/// A file whose lock can be given up while it is open.
+/// A file whose lock can be released while the file is open.
 pub trait StoreFile: LockFile {
-    /// Gives the lock up.
+    /// Releases the lock.
     fn release(&self) -> io::Result<()>;
 }
 

@@ -51,8 +51,8 @@ fn order_rule(fault: &Fault) -> &'static str {
     match fault {
         Fault::NoMemory => "There was not enough memory to run it. Smaller batches need less.",
         Fault::Full => {
-            "The log has no room for this. Lines clean or --clean-when-full make room, unless too much data lives. \
-            Then copy the store with .copy or --copy-to to a file with more --segments."
+            "The log has no room for this. Lines clean or --clean-when-full may make room. If they do not, copy the store \
+            with .copy or --copy-to to a file with more --segments."
         }
         _ => meaning(fault),
     }

@@ -261,12 +261,11 @@ pub fn a_text_is_a_stream_that_was_read_to_its_end()
         (rest : List Line) → first_bad 1 (front ++ Bad why ∷ rest) ≡ Some (length front + 1, why) }
 {}
 
-/// In a stream, a refused order is answered by one line, after those of the cleans in front of it, and
-/// changes no pair, the later orders are
-/// answered from the store that it leaves, and the orders end without an error. A bad line is
-/// answered at once, and so are a line that found no memory and the 65,536th command of a batch,
-/// which are refused. The rest of the batch is skipped up to the line that ends it, and if this line
-/// is an order, the order is run.
+/// In a stream, a refused order is answered by one line, after the lines of the cleans in front of
+/// it, and changes no pair. The later orders are answered from the store as it is then, and the
+/// orders end without an error. A bad line is answered at once, and so are a line for which an
+/// allocation failed and the 65,536th command of a batch, which are refused. The rest of the batch
+/// is skipped up to the line that ends it, and if this line is an order, the order is run.
 pub fn a_stream_goes_on_after_a_refusal()
     ensures holds { (settings : Settings) → (st : Store) → (seen : Seen) → (order : Order) →
         (fault : Fault) → refusal_of settings st seen order ≡ Some fault →

@@ -163,7 +163,7 @@ fn release<F: StoreFile + Drop>(held: Option<F>) -> io::Result<()> {
     }
 }
 
-// Opens the store in an existing file. If the session writes nothing, gives the lock up as soon as
+// Opens the store in an existing file. If the session writes nothing, releases the lock as soon as
 // the store is in memory.
 fn old_store<'a, R: AllocGlobal + Threads + Sync + Files + Clock, P: Observer>(
     at: &Session<'a, R, P>,
@@ -190,7 +190,7 @@ fn new_store<'a, R: AllocGlobal + Threads + Sync + Files + Clock, P: Observer>(
 ) -> Result<Store<StoreDisk<'a, R::File, P>>, SessionError>
 where
     R::File: StoreFile,
-    // The disk of a file is not honest, so whichever bytes the file had will do.
+    // The disk of a file is not honest, so any old contents of the file satisfy this clause.
     ensures opens { (file : Bytes) → Opens ⟦<StoreDisk<'a, R::File, P> as Disk>⟧.view (new_start
         at.now.asked.now.settings file) result }
     ensures fine { IfOk result (λ store. store.has_failed ≡ false) }
@@ -226,7 +226,7 @@ fn store_in_file<'a, R: AllocGlobal + Threads + Sync + Files + Clock, P: Observe
 ) -> Result<Store<StoreDisk<'a, R::File, P>>, SessionError>
 where
     R::File: StoreFile,
-    // A file has some bytes, whichever they are.
+    // The file has some bytes, about which nothing is known.
     ensures opens { (start : Start) × IsStartBy at.now.asked.now.settings (Some path.now)
         at.now.asked.now.create None start
         × Opens ⟦<StoreDisk<'a, R::File, P> as Disk>⟧.view start result }
@@ -239,11 +239,12 @@ where
     }
 }
 
-/// Opens the store of the session. The file is locked exclusively if the session `writes` or creates
-/// it. Otherwise the lock is shared, the file is only read, and the lock is given up as soon as the
-/// store is in memory. A file that cannot be opened or locked, or, without `--create`, that holds no
-/// store, is left as it was. If the length of a created file cannot be set, `FileDisk::of_zeros`
-/// says what the file holds; after a later failure, its old contents are lost.
+/// Opens the store of the session. The file is locked exclusively if the session `writes` or
+/// creates it. Otherwise the lock is shared, the file is only read, and the lock is released as
+/// soon as the store is in memory. A file that cannot be opened or locked, or, without `--create`,
+/// that has no store, is unchanged. If the length of a created file cannot be set,
+/// `FileDisk::of_zeros` describes the contents of the file; after a later failure, its old contents
+/// are lost.
 pub(crate) fn open_store<'a, R: AllocGlobal + Threads + Sync + Files + Clock, P: Observer>(
     at: &Session<'a, R, P>,
     writes: bool,

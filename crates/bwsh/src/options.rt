@@ -202,7 +202,7 @@ fn mode(matches: &ArgMatches<'_>) -> Mode
 
 /// Parses the words after the program's name. Ranges are checked later, by `Settings::check` (only
 /// for a new store or a copy) and `Crew::check`.
-// Not inlined, since its large stack frame would then be held during the whole session.
+// Not inlined, because its large stack frame would then be held during the whole session.
 #[inline(never)]
 pub fn options(alloc: Global, words: &[String]) -> Result<Options, Error>
     ensures ok { IfOk result (λ o. AsksFor (texts words.now) (request_of o)) }

@@ -59,7 +59,7 @@ pub enum Order {
         line: u64,
         why: Why,
     },
-    /// Refuse a batch, since an allocation for one of its lines failed.
+    /// Refuse a batch, because an allocation for one of its lines failed.
     Lost,
     /// Write the changes to the log, and print the sequence number.
     Flush,

@@ -50,8 +50,8 @@ pub(crate) fn run_step<R: Threads + Sync, D: Disk, O: Write>(
     }
 }
 
-// Tidies the store. It holds the same pairs even after a fault. Only a failed allocation is
-// returned, since the flush proceeds after any other fault.
+// Tidies the store. It has the same pairs even after a fault. Only a failed allocation is returned,
+// because the flush proceeds after any other fault.
 fn tidy_store<R: Threads + Sync, D: Disk>(
     at: &Context<'_, R>,
     most: u32,

@@ -14,9 +14,9 @@ ghost use Rattle.bwsh.specs.declared.order.Order.{Order};
 ghost use Rattle.bwsh.specs.declared.session.SessionError.TheVariants.{Device};
 ghost use Rattle.bwsh.specs.declared.session.SessionError.TheVariants as errors;
 ghost use Rattle.bwsh.specs.BatchFile.{AreRead, first_bad, orders_in, parse_text};
-ghost use Rattle.bwsh.specs.Options.{Request, AsksFor, AsksForReports, AsksForText, AsksToExplain, AsksToStream, AreRefused, reports, request_of};
+ghost use Rattle.bwsh.specs.Options.{Request, AsksFor, AsksForReports, AsksForText, AsksToExplain, AsksToStream, AreRefused, copy_of, reports, request_of};
 ghost use Rattle.bwsh.specs.Output.{BeginsWith, IsBegun};
-ghost use Rattle.bwsh.specs.Session.{Answers, EndsBy, EndsReported, IsForWords, IsQuiet, IsReportedWith, IsShown, IsStart, OrdersAll, Prints, PrintsOneText, Reads, RunsRead, Start, device_line, end_from, error_text, lines_from, session_orders, status_of, status_of_end, unread_text, version_text};
+ghost use Rattle.bwsh.specs.Session.{Answers, EndsBy, EndsReported, IsCopyMade, IsForWords, IsQuiet, IsReportedWith, IsShown, IsStart, OrdersAll, Prints, PrintsOneText, Reads, RunsRead, Start, device_line, end_from, error_text, lines_from, map_kept_from, session_orders, status_of, status_of_end, unread_text, version_text};
 ghost use Rattle.bwsh.specs.Source.{IsToCome};
 
 use crate::asks::answer;
@@ -532,7 +532,8 @@ where
     // compact the tree, and does the cleans of `Store::flush_cleaning`, whose lines are printed in
     // front of its own even if it is refused. Without `--stream`, no order was refused. With it, a
     // refused order is answered by one line, and changes no pairs; a line for which an allocation
-    // failed is such an order.
+    // failed is such an order. With `--copy-to`, a copy of the pairs that the orders leave was made
+    // under the settings of the command line: no clause says that the file holds it.
     ensures done { result ≡ 0 →
         AsksForText (map string_bytes words.now)
         ⊎ ((request : Request) × AsksFor (map string_bytes words.now) request
@@ -544,7 +545,9 @@ where
         × (end_from request.mode.stream start shown (session_orders request parsed) ≡
         Ok tt)
         × Appends (O.contents out.old) (O.contents out.new)
-        (flat (lines_from request.mode.stream start shown (session_orders request parsed)))))) }
+        (flat (lines_from request.mode.stream start shown (session_orders request parsed)))
+        × IfSome (copy_of request) (λ settings. IsCopyMade settings
+        (map_kept_from start shown (session_orders request parsed)))))) }
     ensures bad { result ≡ 3 →
         (AsksToStream (map string_bytes words.now) → ⊥)
         × Appends (O.contents out.old) (O.contents out.new) []

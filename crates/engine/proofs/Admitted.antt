@@ -1,4 +1,4 @@
--- A batch that isn't refused has short keys and values.
+-- A batch that is not refused has keys and values within the settings.
 use Rattle.std.specs.Prelude.{◌≡◌, ◌≤◌, ℕ, ◌+◌, Bool, true, false, nat_lt, List, [], ◌∷◌, length, Option, Some, None, Result, Ok, Err, MatchOption, IfSome, if◌then◌else◌}
 use Rattle.std.proofs.Common.{refl}
 use Rattle.std.specs.Option.{option_or}
@@ -11,12 +11,12 @@ use Rattle.climb_plan.specs.Limits.{IsShortPair, IsShortAccess, IsShortCommand, 
 use Rattle.engine.specs.Refusal.{key_fault, value_fault, bound_fault, deed_fault, fault_at, first_fault, refusal}
 use Rattle.engine.proofs.RefusedCalls.{refused_as, same_refusal}
 
--- a batch that was let through isn't refused
+-- a batch that passed the checks is not refused
 pub passed_by : {U : Type 0} (o : Option Fault) (r : Result U Fault) (u v : U) → MatchOption o (r ≡ Ok u) (λ fault. r ≡ Err fault) → r ≡ Ok v → o ≡ None
 passed_by None r u v h e = refl
 passed_by (Some fault) r u v h e = absurd (cc)
 
--- one that wasn't is refused by its own fault
+-- one that did not pass is refused with its fault
 pub refused_by_own : {U : Type 0} (Y : Type 0) (o : Option Fault) (r : Result U Fault) (u : U) (fault : Fault) (P : Type 0) → MatchOption o (r ≡ Ok u) (λ f. r ≡ Err f) → r ≡ Err fault → MatchOption o P (λ f. refused_as {Y = Y} fault ≡ Err f)
 refused_by_own Y None r u fault P own was = absurd (cc)
 refused_by_own Y (Some f) r u fault P own was = same_refusal r fault f was own

@@ -37,20 +37,20 @@ routes_here m cs = routes (levels_of (tree_of m)).level cs
 -- ---- the leaves of some routes
 
 module _ (s : Settings) (cs : Commands) (t : Mapping PageOfKind) where
-  -- what a leaf's job answers
+  -- the answers of a leaf's job
   abbrev leaf_answers : Route → List (Piece Global)
   leaf_answers r = (leaf_made s cs (leaf_held t r)).pieces
 
   abbrev all_answers : List Route → List (Piece Global)
   all_answers rs = answers (leaves_made s cs t rs)
 
-  -- a leaf to which no command goes answers nothing
+  -- a leaf to which no command goes has no answers
   answers_if : (pid : ℕ) (ps : List ℕ) (rs : List Route) → (let r : Route = record { pid = pid; places = ps } in all_answers (cond (has_places r) (r ∷ rs) rs) ≡ leaf_answers r ++ all_answers rs)
   answers_if pid [] rs = refl
   answers_if pid (p ∷ ps) rs = refl
 
   module _ (m : List (List ℕ × List ℕ)) (rises : IsRising m) where
-    -- a leaf that has its part of the map answers to its own commands on this part
+    -- a leaf that has its part of the map gives the answers to its own commands on this part
     its_answers : (at : Place) → HoldsPart t m at → leaf_answers (route_to cs at) ≡ answers_from 0 at.low at.end m cs
     its_answers at h =
         let home = h.home in
@@ -68,7 +68,7 @@ module _ (s : Settings) (cs : Commands) (t : Mapping PageOfKind) where
 -- ---- a level of leaves
 
 module _ (s : Settings) (cs : Commands) (t : Mapping PageOfKind) (level : List (Placed (List ℕ))) (home : AllByRecursion (IsHomeLeaf t) level) where
-  -- the routes are to leaves at home, each to another if the pids are distinct
+  -- the routes are to leaves in the table, to distinct ones if the pids are distinct
   level_routes : Distinct (pids level) → AreLeafRoutes t cs (routes level cs)
   level_routes distinct =
       let IsLeafPid : ℕ → Type 0 = λ pid. IsLeafAt (page_of t pid) in
@@ -82,11 +82,11 @@ module _ (s : Settings) (cs : Commands) (t : Mapping PageOfKind) (level : List (
     level_answers : all_answers s cs t (routes level cs) ≡ all_answers_from (joined level) cs (ranges level)
     level_answers = kept_answers s cs t (joined level) (rising-joined level None tiled) (ranges level) (parts_from t [] level level refl tiled home)
 
-    -- leaves that tile all keys answer rightly
+    -- leaves that tile all keys give correct answers
     level_rightly : AreAnswers cs (all_answers s cs t (routes level cs))
     level_rightly = rw level_answers (answers_are_right level first tiled (joined level) cs (rising-joined level None tiled))
 
-    -- and their answers make the replies of the map that they all hold
+    -- and their answers make the replies of the map that they hold together
     level_as_a_map : length (joined level) + length cs ≤ most_counted → (rs : List (Reply Global)) → ((place : ℕ) → slice_get rs place ≡ reply_at cs (all_answers s cs t (routes level cs)) place) → rs ≡ replies_to (joined level) cs
     level_as_a_map few rs answered =
         answers_make_the_replies level first tiled (joined level) cs (rising-joined level None tiled) few rs
@@ -102,16 +102,16 @@ module _ (s : Settings) (m : TreeInMemory) (cs : Commands) (home : AreAllHome m)
   pub leaf_parts : AllByRecursion (HoldsPart m.table (contents (tree_of m))) (ranges (levels_of (tree_of m)).level)
   leaf_parts = let level = (levels_of (tree_of m)).level in parts_from m.table [] level level refl proper.levels.tiled leaves_home
 
-  -- the routes of a batch are to leaves at home, each to another
+  -- the routes of a batch are to distinct leaves in the table
   pub routes_are_leaves : AreLeafRoutes m.table cs (routes_here m cs)
   routes_are_leaves =
       let l = levels_of (tree_of m) in
       level_routes s cs m.table l.level leaves_home (distinct_first (pids l.level) (flat_map pids l.above) proper.levels.distinct)
 
-  -- the leaves answer rightly
+  -- the answers of the leaves are correct
   pub answered_rightly : AreAnswers cs (answers (leaves_made s cs m.table (routes_here m cs)))
   answered_rightly = level_rightly s cs m.table (levels_of (tree_of m)).level leaves_home proper.levels.first proper.levels.tiled
 
-  -- replies that have at each place what was answered there are those of the whole batch on the whole map
+  -- replies that are made, at each place, of the answers there are those of the whole batch on the whole map
   pub answered_as_a_map : length (contents (tree_of m)) + length cs ≤ most_counted → (rs : List (Reply Global)) → ((place : ℕ) → slice_get rs place ≡ reply_at cs (answers (leaves_made s cs m.table (routes_here m cs))) place) → rs ≡ replies_to (contents (tree_of m)) cs
   answered_as_a_map few rs answered = level_as_a_map s cs m.table (levels_of (tree_of m)).level leaves_home proper.levels.first proper.levels.tiled few rs answered

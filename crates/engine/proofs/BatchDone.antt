@@ -1,4 +1,4 @@
--- What a batch leaves of a store on a disk.
+-- A store on a disk after a batch.
 use Rattle.std.specs.Prelude.{◌≡◌, ℕ, ◌≤◌, ◌<◌, ◌^◌, Bool, false, if◌then◌else◌, List, Option, Some, None}
 use Rattle.std.specs.Option.{option_or}
 use Rattle.std.proofs.Common.{refl, sym, ap, ◌∙◌, subst}
@@ -33,11 +33,11 @@ tree-sound s t log version home is = record {
 pub height_of : {D : Type 0} {view : D → View} {x : State D} → IsSound view x → x.store.tree.height ≤ most_levels
 height_of {x = x} sound = (slot-is x.settings x.store.sequence (slot_of x.store) sound.is.slot).height.1
 
--- its store after a batch is the plan's
+-- the store after a batch is the planned one
 pub planned-is : (s : Settings) (t now : TreeInMemory) (log : LogEnds) (version : Version) (cs : List (Command Global)) → tree_of now ≡ planned_tree s (tree_of t) cs → store_in now log version ≡ plan s (store_in t log version) cs
 planned-is s t now log version cs e = ap (λ (x : Tree). with_tree (store_in t log version) x) e
 
--- a batch that is done is refused by nothing
+-- a batch that is done has no reason to be refused
 low : (h : ℕ) → h ≤ most_levels → height_fault h ≡ None
 low h le = ap (λ (b : Bool). (let o : Option Fault = if b then Some Spent else None in o)) (le-ltb most_levels h le)
 

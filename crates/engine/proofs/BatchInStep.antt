@@ -1,4 +1,4 @@
--- A batch leaves a store in step with its disk.
+-- After a batch a store is still in step with its disk.
 use Rattle.std.specs.Prelude.{◌≡◌, ◌↔◌, ℕ, ◌^◌, ◌<◌, ◌≤◌, nat_lt, List, Some, None}
 use Rattle.std.proofs.lemmas.Bool.{ltb-false}
 use Rattle.keys.specs.Step.{map_after_all}
@@ -20,7 +20,7 @@ use Rattle.engine.specs.Refusal.{refusal}
 use Rattle.engine.specs.Steps.{KeepsStores, batching}
 use Rattle.engine.proofs.Admitted.{neither, none_where, admitted}
 
--- by the laws of the plan: what a page has in the log
+-- the log state of a page, by the laws of the plan
 abbrev pub KeepsPages : {A : Type 0} → Settings → Tree → List (Command A) → Type 0
 KeepsPages s t cs = (pid k : ℕ) (p : PageOfKind) → logged_of (planned_tree s t cs) pid ≡ Upto k → page_at t.pages pid ≡ Some p →
     (q : PageOfKind) × (page_at (planned_tree s t cs).pages pid ≡ Some q) × IsPageOver p q
@@ -39,7 +39,7 @@ module _ {A : Type 0} (s : Settings)
     over = λ pid k page e f. pages t cs p pid k page e f;
   }
 
-  -- a batch that isn't refused leaves one as every store is
+  -- a batch that is not refused keeps the invariant of stores
   pub keeps_store : (st : Store) (cs : List (Command A)) → IsStore s st → refusal_by s st.tree cs ≡ None → (planned_tree s st.tree cs).root < 2 ^ 64 → IsStore s (with_tree st (planned_tree s st.tree cs))
   keeps_store st cs h allowed root =
       let parts = neither (refusal s cs) (height_fault (planned_tree s st.tree cs).height) allowed in
@@ -48,7 +48,7 @@ module _ {A : Type 0} (s : Settings)
       low_by : (height : ℕ) → height_fault height ≡ None → height ≤ 64
       low_by height e = ltb-false 64 height (none_where (nat_lt 64 height) _ e)
 
-  -- in step with the same bytes, and does to what it holds what its commands do
+  -- the store is in step with the same bytes, and its contents are the map after the commands
   pub keeps_stores : KeepsStores {A = A} s (batching s)
   keeps_stores st file cs h allowed root =
       let (on_disk, read, step) = h.step in

@@ -1,4 +1,4 @@
--- Leaves that are taken out of the tree, and put back.
+-- Leaves that are checked out of the tree, and put back.
 use Rattle.std.specs.Prelude.{◌≡◌, ℕ, map, List, [], ◌∷◌, Option, Some, None}
 use mathlib.Core.List.{map-map}
 use Rattle.std.proofs.Common.{refl, sym, ap, ◌∙◌, subst}
@@ -20,20 +20,20 @@ use Rattle.engine.specs.Tasks.{under_pids}
 
 -- ---- leaves are put back
 
--- what was undone, put back, is what was held
+-- pages that were undone and put back are the original ones
 pub put_held : (tree now : TreeInMemory) (held : LeafHeld) (job : LeafJob) → leaf_held_of job ≡ held → now ≡ record tree { table = with_place tree.table job.page_run.pid (Some job.page) } → now ≡ record tree { table = with_place tree.table held.route.pid (Some held.page) }
 put_held tree now held job e n = n ∙ ap (λ (h : LeafHeld). record tree { table = with_place tree.table h.route.pid (Some h.page) }) e
 
--- ---- leaves are taken
+-- ---- leaves are checked out
 
--- what was taken under a pid that is read from its route
+-- the page that was checked out under a pid that is read from its route
 pub taken_at : (tree now : TreeInMemory) (pid k : ℕ) → pid ≡ k → now ≡ record tree { table = with_place tree.table pid None } → now ≡ record tree { table = with_place tree.table k None }
 taken_at tree now pid k e n = n ∙ ap (λ (q : ℕ). record tree { table = with_place tree.table q None }) e
 
 pub page_at : (t : Mapping PageOfKind) (pid k : ℕ) (p : PageOfKind) → pid ≡ k → page_of t pid ≡ Some p → page_of t k ≡ Some p
 page_at t pid k p e h = ap (page_of t) (sym e) ∙ h
 
--- once one of them was taken, the others are at home
+-- after one of them was checked out, the others are in the table
 pub leaves_next : (tree now : TreeInMemory) (k : ℕ) (ks all : List ℕ) → all ≡ k ∷ ks → now ≡ record tree { table = with_place tree.table k None } → AreLeavesHome tree.table all → AreLeavesHome now.table ks
 leaves_next tree now k ks all e n h =
     let a : AreLeavesHome tree.table (k ∷ ks) = subst (λ (ns : List ℕ). AreLeavesHome tree.table ns) e h in
@@ -41,15 +41,15 @@ leaves_next tree now k ks all e n h =
     let rest : AreLeavesHome t ks = (all_kept (λ o. IsLeafAt (at_home o)) tree.table t k (placed_apart tree.table k None) ks a.1.0 a.0.1, a.1.1) in
     subst (λ (x : TreeInMemory). AreLeavesHome x.table ks) (sym n) rest
 
--- ---- leaves are worked
+-- ---- leaves are updated
 
--- where a leaf is at home, the page there is one
+-- if there is a leaf under a pid, the page in its place is a leaf
 pub leaf_there : (o : Option PageOfKind) → IsLeafAt o → IsLeaf (page_or_none o)
 leaf_there None h = absurd h
 leaf_there (Some (Leaf p)) h = h
 leaf_there (Some (Index p)) h = absurd h
 
--- ---- leaves that could not be worked come back
+-- ---- leaves that could not be updated are returned
 
 held_pids : (t : Mapping PageOfKind) (rs : List Route) → map (λ h. h.route.pid) (map (leaf_held t) rs) ≡ route_pids rs
 held_pids t rs = map-map (λ (h : LeafHeld). h.route.pid) (leaf_held t) rs
@@ -67,7 +67,7 @@ held_home : (t : Mapping PageOfKind) (rs : List Route) → AllByRecursion (λ k.
 held_home t [] a = tt
 held_home t (r ∷ rs) a = (home_there (place_of t r.pid) a.0, held_home t rs a.1)
 
--- where leaves that were taken come back as they were, their places are away
+-- if leaves that were checked out are returned unchanged, their places are empty
 pub back_away : (tree taken : TreeInMemory) (hs : List LeafHeld) (rs : List Route) → taken ≡ tree_taken tree (route_pids rs) → hs ≡ map (leaf_held tree.table) rs → Distinct (route_pids rs)
     → AreAway taken.table (map (λ h. h.route.pid) hs)
 back_away tree taken hs rs n e d =
@@ -76,7 +76,7 @@ back_away tree taken hs rs n e d =
     let all : AreAway (all_taken tree.table ks) ks = (away-all_taken tree.table ks d, d) in
     subst (λ (y : TreeInMemory). AreAway y.table (map (λ h. h.route.pid) hs)) (sym n) (subst (λ (ns : List ℕ). AreAway (all_taken tree.table ks) ns) (sym same) all)
 
--- and once they are put back the tree is as it was
+-- and after they are put back the tree is the same as before
 pub back_is_before : (tree taken now : TreeInMemory) (hs : List LeafHeld) (rs : List Route) → taken ≡ tree_taken tree (route_pids rs) → hs ≡ map (leaf_held tree.table) rs
     → now ≡ tree_put taken (under_pids hs) → AreLeavesHome tree.table (route_pids rs) → AreRisingPids (pids_in_use tree.table) → now ≡ tree
 back_is_before tree taken now hs rs n e p h r =

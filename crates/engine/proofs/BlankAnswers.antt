@@ -1,4 +1,4 @@
--- Answers without some blank ones to commands on ranges: they answer rightly too, and make the same replies.
+-- Answers without some blank ones to commands on ranges: they are correct too, and make the same replies.
 use Rattle.std.specs.Prelude.{◌≡◌, ℕ, ◌+◌, ◌==◌, min, Bool, true, false, cond, List, [], ◌∷◌, ◌++◌, flat_map, take, length, slice_get, Option, Some, None}
 use Rattle.std.proofs.Common.{refl, sym, ap, ◌∙◌, subst, arith, inl, inr, eqb-true}
 use Rattle.std.specs.List.{All, AllByRecursion, sum_by}
@@ -81,7 +81,7 @@ module _ {A : Type 0} where
     same_sums i (AreButBlank.next {qs = qs} {ps = ps} p a) = sum_next (p.place == i) p (pieces_at qs i) (pieces_at ps i) (same_sums i a)
     same_sums i (AreButBlank.left_out {qs = qs} {ps = ps} p r e a) = same_sums i a ∙ sum_out (p.place == i) p (pieces_at ps i) (no_count p.reply e)
 
-    -- ---- what they make
+    -- ---- the replies that they make
 
     plain_at : (i : ℕ) (c : Command A) → slice_get cs i ≡ Some c → is_ranged c ≡ false → is_ranged_at cs i ≡ false
     plain_at i c e p = ap (λ (o : Option (Command A)). is_some_that is_ranged o) e ∙ p
@@ -102,7 +102,7 @@ module _ {A : Type 0} where
     pub but_reply : (qs ps : List (Piece A)) → AreButBlank cs qs ps → (place : ℕ) → reply_at cs qs place ≡ reply_at cs ps place
     but_reply qs ps a i = reply_by i (slice_get cs i) qs ps refl a
 
-    -- and answer rightly
+    -- and are correct
     pub but_answers : (qs ps : List (Piece A)) → AreButBlank cs qs ps → AreAnswers cs ps → AreAnswers cs qs
     but_answers qs ps a h = record {
       within = all_of_but (IsPlaceOf cs) qs ps a h.within;

@@ -1,4 +1,4 @@
--- A clean, in the words of the claim.
+-- A clean, in terms of the claim.
 use Rattle.std.specs.Prelude.{◌≡◌, ◌≢◌, ◌⊎◌, ℕ, suc, Bool, IsTrue, true, false, Some, Result, Ok, Err, MatchResult, IfErr, OnOk}
 use Rattle.std.proofs.Common.{refl, sym, ap, ◌∙◌, subst, inl, inr, ⊎_elim}
 use Rattle.keys.specs.Bytes.{Bytes}
@@ -21,7 +21,7 @@ use Rattle.engine.specs.State.{State, IsSound}
 use Rattle.engine.specs.StoreClaim.{held_in, recovered_from, if_ok}
 use Rattle.engine.proofs.StepDone.{fine_where, able_where}
 
--- what a law of `cleaner` says of it
+-- the consequences of a law of `cleaner` for it
 abbrev pub KeepsDisk : Type 0
 KeepsDisk = (s : Settings) (st on_disk now : Store) (file bytes : Bytes) → store_of_disk file ≡ Ok (s, on_disk) → AreInStep st on_disk → after_clean s st file ≡ Ok (now, bytes)
     → (store_of_disk bytes ≡ Ok (s, with_tree now on_disk.tree)) × IsInStep s now bytes
@@ -59,7 +59,7 @@ module _ {D : Type 0} (view : D → View) (failures : D → ℕ) (x y : State D)
   clean-state (Ok n) made = ap if_ok made
   clean-state (Err fault) made = tt
 
-  -- which faults make it a failed one
+  -- the faults after which the store has failed
   pub clean-fails : (r : Result ℕ Fault)
       → OnOk r ((y.has_failed ≡ x.has_failed) × (failures y.disk ≡ failures x.disk))
       → IfErr r (λ fault. fault ≡ Device → y.has_failed ≡ true)
@@ -68,7 +68,7 @@ module _ {D : Type 0} (view : D → View) (failures : D → ℕ) (x y : State D)
   clean-fails (Ok n) counted device fine = counted.0
   clean-fails (Err fault) counted device fine = (device, (λ other. (fine other).0))
 
-  -- a fault of another kind leaves the disk as it was
+  -- any other fault leaves the disk as it was
   unwritten_by : (b : Bool) → x.has_failed ≡ b → IsTrue (view x.disk).is_honest → (r : Result ℕ Fault)
       → (x.has_failed ≡ true → (r ≡ Err Failed) × (y ≡ x))
       → (x.has_failed ≡ false → IsTrue (view x.disk).is_honest → IfErr r (λ fault. Same (view x.disk) (view y.disk) ⊎ ((fault ≡ Device) × WouldClean x.settings x.store seen)))

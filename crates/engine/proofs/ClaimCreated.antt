@@ -1,4 +1,4 @@
--- The creation of a store, in the words of the claim.
+-- The creation of a store, in terms of the claim.
 use Rattle.std.specs.Prelude.{◌≡◌, ◌≢◌, ℕ, ◌≤◌, nat_lt, if◌then◌else◌, Bool, true, false, [], length, Option, Some, None, Result, Ok, Err, IfOk, IsErr, IfErr, MatchOption, MatchResult}
 use Rattle.std.specs.Option.{option_or}
 use Rattle.std.proofs.Common.{refl, sym, ap, ◌∙◌, subst, inl, inr}
@@ -24,7 +24,7 @@ use Rattle.engine.specs.StoreClaim.{created_to, held_in, if_ok, recovered_from}
 use Rattle.engine.proofs.CreateLemmas.{fits}
 use Rattle.engine.proofs.HiddenStores.{after_create_is}
 
--- what a law of `recovery` says of a new disk
+-- the consequences of a law of `recovery` for a new disk
 abbrev pub StandsNew : Type 0
 StandsNew = (s : Settings) (disk : Bytes) → first_bad_field s ≡ None → HasSegments s disk → (store_of_disk (disk_of_new s disk) ≡ Ok (s, first_store)) × IsStoreOf s first_store (disk_of_new s disk)
 
@@ -41,7 +41,7 @@ module _ (stands : StandsNew) (s : Settings) where
   left file c empty good room (inr (inl none)) = inr (inl (ap held_in none))
   left file c empty good room (inr (inr new)) = inr (inr (ap recovered_from new ∙ new_recovered file empty good room))
 
--- no store is refused by a device before its creation
+-- before it is created, a store fails with no `Device`
 no_device : (o : Option Field) (b : Bool) (fault : Fault) → option_or (field_fault o) (if b then Some DiskTooSmall else None) ≡ Some fault → fault ≢ Device
 no_device None true fault is device = cc
 no_device None false fault is device = cc
@@ -63,7 +63,7 @@ module _ {D : Type 0} (view : D → View) (failures : D → ℕ) (stands : Stand
       let none : contents first_store.tree ≡ [] = ap (λ (st : Store). contents st.tree) (sym first) ∙ empty in
       ap recovered_from (after_create_is s seen x.store (view x.disk).seen made) ∙ new_recovered stands s seen none good has
 
-  -- it is settled, and holds the new store
+  -- it is synced, and encodes the new store
   pub create-durable : (r : Result (State D) (Fault × D))
       → IfOk r (λ x. (x.settings ≡ s) × (x.store ≡ first_store) × (x.has_failed ≡ false))
       → IfOk r (λ x. contents x.store.tree ≡ [])
@@ -74,7 +74,7 @@ module _ {D : Type 0} (view : D → View) (failures : D → ℕ) (stands : Stand
   create-durable (Ok x) made empty kept sound bytes = (one x made.0 made.1 empty kept.0 sound bytes.0, bytes.1)
   create-durable (Err e) made empty kept sound bytes = tt
 
-  -- what a crash may leave
+  -- the outcomes of a crash
   abbrev Left : Bytes → Type 0
   Left = IsLeftByCreate recovered_from seen (new_under s)
 

@@ -1,4 +1,4 @@
--- A store that was opened, in the words of the claim.
+-- A store that was opened, in terms of the claim.
 use Rattle.std.specs.Prelude.{◌≡◌, false, None, Result, Ok, Err, IfOk}
 use Rattle.keys.specs.Order.{IsRising}
 use Rattle.keys.specs.declared.fault.Fault.{Fault}

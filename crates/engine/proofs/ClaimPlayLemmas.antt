@@ -1,4 +1,4 @@
--- Turns of a play in the words of the trait: two turns one after the other, and a step that fails after a turn.
+-- Turns of a play in terms of the trait: two turns one after the other, and a step that fails after a turn.
 use Rattle.std.specs.Prelude.{◌≡◌, ◌≢◌, ◌⊎◌, suc, ◌<◌, Bool, IsTrue, true, false, List, [], ◌∷◌, ◌++◌, length, map, drop, Option, Some, None, Result, Err}
 use Rattle.std.proofs.Common.{refl, sym, ap, ◌∙◌, subst, inl, inr, ⊎_elim, arith}
 use Rattle.std.proofs.lemmas.List.{append-nil, length-append, map-append, take-append-le}
@@ -103,7 +103,7 @@ module _ {State : Type 0} (recovered : Bytes → Option Held) (calls : StateCall
     honest_still : IsTrue old.disk.is_honest → IsTrue mid.disk.is_honest
     honest_still honest = subst IsTrue (sym first.rest.2.honest) honest
 
-    -- what is durable after more steps
+    -- the durable state after more steps
     pub durable_there : IsTrue old.disk.is_honest → (zs : List (Step Global))
         → durable_after mid.settings (recovered mid.disk.seen) mid.contents zs ≡ durable_after old.settings (recovered old.disk.seen) old.contents (xs ++ zs)
     durable_there honest zs =
@@ -120,7 +120,7 @@ module _ {State : Type 0} (recovered : Bytes → Option Held) (calls : StateCall
         (subst (λ (h : Option Held). IsDurableAfterSome old.settings h mid.contents zs c) (first.durable honest)
         (subst (λ (s : Settings). IsDurableAfterSome s (recovered mid.disk.seen) mid.contents zs c) first.rest.0 is)))
 
-    -- a crash in what comes after the turn
+    -- a crash in the steps after the turn
     pub crash_of : (zs : List (Step Global)) → IsSynced old.disk
         → LeavesOnly mid.disk new.disk (λ c. IsDurableAfterSome mid.settings (recovered mid.disk.seen) mid.contents zs (recovered c))
         → LeavesOnly old.disk new.disk (λ c. IsDurableAfterSome old.settings (recovered old.disk.seen) old.contents (xs ++ zs) (recovered c))
@@ -353,7 +353,7 @@ module _ {X D State : Type 0} (con : X → Pairs Bytes) (set : X → Settings) (
           (λ other. turn_stopped recovered calls (members old) (members new) x fault failed other.0 (read_only flag.1 state same other.0))
           (device_or_not fault)
 
-  -- another name of the step
+  -- the step under its other name
   pub turn_named : (x y : Step Global) (a b : Answer Global) → y ≡ x → b ≡ a → IsTurnOf recovered calls (members old) (x ∷ []) (a ∷ []) (members new) → IsTurnOf recovered calls (members old) (y ∷ []) (b ∷ []) (members new)
   turn_named x y a b step answer turn =
       subst (λ (z : Step Global). IsTurnOf recovered calls (members old) (z ∷ []) (b ∷ []) (members new)) (sym step)

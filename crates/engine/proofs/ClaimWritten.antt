@@ -1,4 +1,4 @@
--- A flush and an upgrade, in the words of the claim.
+-- A flush and an upgrade, in terms of the claim.
 use Rattle.std.specs.Prelude.{◌≡◌, ◌≢◌, ◌⊎◌, ℕ, IsTrue, true, false, [], Option, Some, Result, Ok, Err, IfOk, IfErr, OnOk}
 use Rattle.std.proofs.Common.{refl, sym, ap, ◌∙◌, subst, inl, inr, ⊎_elim}
 use Rattle.keys.specs.Bytes.{Bytes, Pairs}
@@ -22,7 +22,7 @@ use Rattle.engine.proofs.PlayTurn.{device_or_not}
 use Rattle.engine.proofs.StepDone.{fine_where, able_where, empty_or_not}
 
 module _ {D : Type 0} (x y : State D) where
-  -- which faults make it a failed one
+  -- the faults after which the store has failed
   pub written-fails : (r : Result ℕ Fault) (failures : D → ℕ)
       → OnOk r ((y.has_failed ≡ x.has_failed) × (failures y.disk ≡ failures x.disk))
       → IfErr r (λ fault. fault ≡ Device → (y.store ≡ x.store) × (y.has_failed ≡ true))
@@ -30,9 +30,9 @@ module _ {D : Type 0} (x y : State D) where
   written-fails (Ok n) failures counted device unchanged = counted.0
   written-fails (Err fault) failures counted device unchanged = ((λ is. (device is).1), (λ other. ap (λ (z : State D). z.has_failed) (unchanged other)))
 
--- what a call that writes leaves, and the frames that it writes
+-- the result of a call that writes, and the frames that it writes
 module _ (after : Settings → Store → Bytes → Result (Store × Bytes) Fault) (Frames : Settings → Store → Type 0) where
-  -- what two laws of `recovery` say of it
+  -- the consequences of two laws of `recovery` for it
   abbrev pub KeepsTree : Type 0
   KeepsTree = (s : Settings) (st now : Store) (file bytes : Bytes) → IsStore s st → after s st file ≡ Ok (now, bytes) → now.tree ≡ flushed st.tree
 
@@ -44,7 +44,7 @@ module _ (after : Settings → Store → Bytes → Result (Store × Bytes) Fault
     same_pairs : (s : Settings) (st now : Store) (file bytes : Bytes) → IsStore s st → after s st file ≡ Ok (now, bytes) → contents now.tree ≡ contents st.tree
     same_pairs s st now file bytes is made = ap contents (trees s st now file bytes is made)
 
-    -- what it writes holds what the store held
+    -- the written store has the contents of the store
     recovered : IsRead → (s : Settings) (st now : Store) (file bytes : Bytes) → IsStoreOf s st file → Frames s st → after s st file ≡ Ok (now, bytes)
         → recovered_from bytes ≡ Some (s, contents st.tree)
     recovered reads s st now file bytes is frames made =
@@ -107,7 +107,7 @@ module _ (after : Settings → Store → Bytes → Result (Store × Bytes) Fault
               (leaves_itself (view x.disk) Left lawful is_synced (inl refl)))
               (device_or_not fault)
 
--- a flush that has nothing to write leaves a settled disk
+-- after a flush that has nothing to write, the disk is synced
 module _ {D : Type 0} (view : D → View) (x y : State D) (crew : Crew) where
   pub flush-is_synced : IsSynced (view x.disk) → (r : Result ℕ Fault) → (x.has_failed ≡ true → r ≡ Err Failed)
       → (x.has_failed ≡ false → is_crew crew ≡ false → r ≡ Err BadCrew)

@@ -1,4 +1,4 @@
--- What a clean leaves of a store in memory.
+-- A store in memory after a clean.
 use Rattle.std.specs.Prelude.{◌≡◌, ◌≢◌, ◌⊎◌, ℕ, ◌≤◌, IsTrue, Bool, true, false, List, Result, Ok}
 use Rattle.std.proofs.Common.{sym, ap, ◌∙◌, subst, ⊎_elim}
 use Rattle.keys.specs.declared.fault.Fault.{Fault}
@@ -17,7 +17,7 @@ use Rattle.cleaner.specs.AfterClean.{after_clean}
 use Rattle.engine.specs.State.{IsSound, store_in}
 use Rattle.engine.proofs.CreateLemmas.{slot_with, opened-is}
 
--- a clean that was done of these bytes leaves the store of the new slot
+-- a clean that read these bytes and succeeded leaves the store with the new slot
 pub cleaned-now : (r : Result (Store × List ℕ) Fault) (tree : TreeInMemory) (slot : Slot) (log : LogEnds) (root height : ℕ) (version : Version) (bytes : List ℕ) → slot_with log root height version ≡ slot
     → r ≡ Ok (store_after (tree_of tree) slot, bytes) → r ≡ Ok (store_in tree log version, bytes)
 cleaned-now r tree slot log root height version bytes same done =
@@ -25,7 +25,7 @@ cleaned-now r tree slot log root height version bytes same done =
 
 module _ {D : Type 0} (view : D → View) (s : Settings) (st : Store) (old new : D) (failed : Bool)
     (was : IsSound view (record { settings = s; store = st; disk = old; has_failed = failed })) (fine : failed ≡ false) (keeps : Kept (view old) (view new)) where
-  -- sound again
+  -- the store is still sound
   pub cleaned-sound : (now : Store) (file bytes : List ℕ)
       → ((s : Settings) (st now : Store) (file bytes : List ℕ) → IsStore s st → after_clean s st file ≡ Ok (now, bytes) → IsStore s now)
       → ((s : Settings) (st now : Store) (file bytes : List ℕ) → IsStoreOf s st file → after_clean s st file ≡ Ok (now, bytes) → IsStoreOf s now bytes)
@@ -39,7 +39,7 @@ module _ {D : Type 0} (view : D → View) (s : Settings) (st : Store) (old new :
         (step s st now (view old).seen (view new).seen (record { is = was.is; step = was.step fine honest }) (wrote honest)).step);
   }
 
-  -- and where it was refused
+  -- also if the clean was refused
   pub refused-sound : (b : Bool) (fault : Fault) (W : Type 0) → ((fault ≡ Device) × (b ≡ true)) ⊎ ((fault ≢ Device) × (b ≡ false)) → (IsTrue (view old).is_honest → Same (view old) (view new) ⊎ ((fault ≡ Device) × W))
       → IsSound view (record { settings = s; store = st; disk = new; has_failed = b })
   refused-sound b fault W reported written = record {

@@ -378,7 +378,7 @@ module _ {D : Type 0} (view : D → View) (failures : D → ℕ) (lawful : (disk
       pub full_next : next.store ≡ cur.store → (file : List ℕ) → after_flush old.settings next.store file ≡ Err Full
       full_next store file = subst (λ (x : Store). after_flush old.settings x file ≡ Err Full) (sym store) (full file)
 
-      -- a fault for want of room that a clean of the store has: a clean is refused
+      -- a fault for lack of room that a clean of the store has: a clean is refused
       full_refused : (why fault : Fault) → IsWantOfRoom why fault → IsOfMachine why ⊎ IsCleanRefusedOn view next → fault ≡ Full → next.settings ≡ old.settings
           → (view next.disk).is_honest ≡ honest → IsCleanRefused honest old.settings next.store (view next.disk).seen
       full_refused why fault want (inl machine) is settings same = absurd (not_full_machine fault (is_machine why fault want machine) is)
@@ -418,7 +418,7 @@ module _ {D : Type 0} (view : D → View) (failures : D → ℕ) (lawful : (disk
       module _ (r : PagesRead) (held : IsHeld view cur r) (roomy : is_overfull cur.settings cur.store r.live ≡ false) (left : ℕ) (some : 0 < left) (sum : count_of rows + left ≡ old.settings.segments)
           (n : ℕ) (many : 0 < n) (few : n ≤ most_cleanable cur.settings cur.store)
           (most : n ≤ min (most_ahead cur.settings) left) where
-        -- the row that was done by this reading, of which the last clean left these bytes
+        -- the row that was performed with this reading, and whose last clean left these bytes
         abbrev row_by : List (List ℕ) → CleanRow
         row_by reads = record { ahead = held.live.0; reads = reads }
 
@@ -611,7 +611,7 @@ pub start_holds : {D : Type 0} (old start : State D) → IsStart old start → c
 start_holds {D = D} old start (inl same) = ap (λ (x : State D). contents x.store.tree) same
 start_holds old start (inr (due, full, bloated, compacted, settings, disk, failed)) = compacted.holds
 
--- and where it was then cleaned and flushed, whatever was answered
+-- and where it was then cleaned and flushed, whatever the result
 pub cleaning_holds : {D : Type 0} (view : D → View) (failures : D → ℕ) (old start now : State D) (r : Result ℕ Fault) → IsStart old start
     → IfOk r (λ _. IsFlushedCleaning view failures start now) → IfErr r (IsStoppedCleaning view failures start now) → contents now.store.tree ≡ contents old.store.tree
 cleaning_holds view failures old start now (Ok n) is flushed stopped = flushed.holds ∙ start_holds old start is

@@ -131,7 +131,7 @@ module _ {D : Type 0} (view : D → View) (failures : D → ℕ) (lawful : (disk
   pub read_then_stopped : (cur mid next : State D) (more : ℕ) (fault : Fault) → IsOnlyRead view failures cur mid → IsStoppedOn view failures mid more fault next → IsStoppedOn view failures cur more fault next
   read_then_stopped cur mid next more fault r on old count done = on old count (still_cleaned old count cur done mid r)
 
--- ---- what is answered
+-- ---- the result
 
 pub if_ok : {X : Type 0} (r : Result X Fault) (P Q : X → Type 0) → IfOk r P → ((x : X) → P x → Q x) → IfOk r Q
 if_ok (Ok x) P Q h step = step x h

@@ -18,12 +18,12 @@ module _ {A : Type 0} where
       ap (λ (ns : List ℕ). c ∷ commands_at (c ∷ cs) ns) e ∙ ap (λ (xs : List (Command A)). c ∷ xs) (commands_at-suc c cs places ∙ h)
   passing_by false c cs ds later places e h = ap (λ (ns : List ℕ). commands_at (c ∷ cs) ns) e ∙ commands_at-suc c cs places ∙ h
 
-  -- at the places of those that pass are those that pass
+  -- the commands at the places of those that pass are those that pass
   pub commands_passing : (passes : Command A → Bool) (cs : List (Command A)) → commands_at cs (places_from 0 passes cs) ≡ filter passes cs
   commands_passing passes [] = refl
   commands_passing passes (c ∷ cs) =
       passing_by (passes c) c cs (filter passes cs) (places_from 1 passes cs) (places_from 0 passes cs) (places_from-suc 0 passes cs) (commands_passing passes cs)
 
-  -- at the places of those that go to a page with this range are those that go to it
+  -- the commands at the places of those that go to a page with this range are those that go to it
   pub commands_within : (low : List ℕ) (end : Option (List ℕ)) (cs : List (Command A)) → commands_at cs (places_within low end cs) ≡ filter (goes_to low end) cs
   commands_within low end cs = commands_passing (goes_to low end) cs

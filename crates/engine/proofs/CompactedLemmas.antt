@@ -1,4 +1,4 @@
--- Compacted trees: the outdated tree that they start from, the puts, and what the log has.
+-- Compacted trees: the outdated tree that they start from, the puts, and the log states.
 use Rattle.std.specs.Prelude.{◌≡◌, ℕ, Bool, true, false, if◌then◌else◌, List, [], ◌∷◌, ◌++◌, Option, Some, None, is_some}
 use Rattle.std.proofs.Common.{refl, sym, ap, ◌∙◌, subst}
 use Rattle.std.specs.List.{AllByRecursion}
@@ -29,7 +29,7 @@ use Rattle.engine.proofs.OutdatedTables.{keys-outdated, outdate_if, outdated_lis
 
 -- ---- the puts
 
--- every key begins with no bytes
+-- every key begins with the empty prefix
 pub all_begin : (m : Pairs Bytes) → with_prefix [] m ≡ m
 all_begin [] = refl
 all_begin (e ∷ es) = ap (λ (x : Pairs Bytes). e ∷ x) (all_begin es)
@@ -93,7 +93,7 @@ never_upto No k e = absurd (cc)
 never_upto Old k e = absurd (cc)
 never_upto (Upto j) k e = absurd (cc)
 
--- it knows of the same page ids that the log has something, and takes nothing for written
+-- the log has something of the same page ids, and nothing counts as written
 pub outdated_keeps : (t : Tree) → KeepsLogged t (outdated_tree t)
 outdated_keeps t = record {
   none = λ pid. ((λ e. outdated_of t pid ∙ ap outdate e), (λ e. no_back (logged_of t pid) (sym (outdated_of t pid) ∙ e)));

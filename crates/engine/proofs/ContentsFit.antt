@@ -1,4 +1,4 @@
--- How many pairs a tree can have: no more than a reply can count.
+-- A tree has no more pairs than a reply can count.
 use Rattle.std.specs.Prelude.{◌≡◌, ◌≢◌, ℕ, ◌+◌, ◌-◌, ◌*◌, ◌^◌, ◌≤◌, Bool, true, false, ◌||◌, cond, nat_le, List, [], ◌∷◌, length, Option, Some, None, IsSome}
 use Rattle.std.proofs.Common.{refl, sym, arith, length-append, leb-true, Ordering, Less, Equal, Greater}
 use Rattle.std.specs.List.{AllByRecursion, IsDistinct, list_any}
@@ -33,7 +33,7 @@ most_changed : (m : Pairs) (k : List ℕ) (o : Option (List ℕ)) → length (wi
 most_changed m k None = let h = most_left m k in omega (arith, h)
 most_changed m k (Some v) = most_added m k v
 
--- a run adds as many pairs as it names at most
+-- a run adds at most as many pairs as it has keys
 most_run : (m : Pairs) (run : List (List ℕ × Option (List ℕ))) → length (with_run m run) ≤ length m + length run
 most_run m [] = omega arith
 most_run m (c ∷ cs) =
@@ -51,7 +51,7 @@ most_layers (run ∷ runs) base a =
 
 -- ---- settings
 
--- what settings that pass the check have at most
+-- upper bounds on settings that pass the check
 record AreFew (s : Settings) : Type 0 where
   pub fan : s.fan ≤ 64
   pub chain : s.chain ≤ 16
@@ -135,7 +135,7 @@ most_leaves ps level d a =
 
 -- ---- a tree
 
--- a tree of no more pages than a number of 64 bits counts has, with as many commands more, no more pairs than a reply can count
+-- a tree whose number of pages fits in 64 bits has, with this many more commands, no more pairs than a reply can count
 pub contents_fit : (s : Settings) (t : Tree) (commands : ℕ) → IsSoundTree s t → length t.pages ≤ 2 ^ 64 - 1 → commands ≤ 2 ^ 64 - 1 → length (contents t) + commands ≤ most_counted
 contents_fit s t commands sound most more =
     let l = levels_of t in

@@ -1,70 +1,92 @@
 -- What becomes of a copy: why it is refused, and what is on its disk once it is flushed.
-use Rattle.std.specs.Prelude.{◌≡◌, ◌≢◌, ◌⊎◌, ℕ, IsTrue, true, false, List, [], ◌∷◌, ◌++◌, length, take, drop, Option, Some, None, Result, Ok, Err, MatchOption, IfOk, IfErr, IsErr}
+use Rattle.std.specs.Prelude.{◌≡◌, ◌≢◌, ◌⊎◌, ℕ, Bool, IsTrue, true, false, if◌then◌else◌, List, [], ◌∷◌, length, Option, Some, None, Result, Ok, Err, MatchOption, IfOk, IfErr, IsErr}
 use Rattle.std.proofs.Common.{refl, sym, ap, ◌∙◌, subst, inl, inr, ⊎_elim}
-use Rattle.std.proofs.Math.Seq.{drop-append_seam}
-use Rattle.std.specs.declared.alloc.Global.{Global}
 use Rattle.keys.specs.Bytes.{Bytes, Pairs}
-use Rattle.keys.specs.declared.command.Command.{Command}
 use Rattle.keys.specs.declared.fault.Fault.{Fault}
-use Rattle.keys.specs.declared.fault.Fault.TheVariants.{Device, NoMemory, NotAStore}
+use Rattle.keys.specs.declared.fault.Fault.TheVariants.{Device, Full, NoMemory, NotAStore, Spent}
 use Rattle.keys.specs.declared.settings.Settings.{Settings}
 use Rattle.mapping.specs.Levels.{contents}
 use Rattle.mapping.specs.Tree.{Store, Tree, with_tree}
-use Rattle.flush_log.specs.AfterFlush.{after_flush}
+use Rattle.frame_codec.specs.Frame.{Frame}
+use Rattle.flush_log.specs.AfterFlush.{Commit, after_flush, after_text, file_after, flush_commit, is_spent, store_after}
 use Rattle.flush_log.specs.Disk.{View, Lawful, IsSynced, Kept, LeavesOnly}
 use Rattle.flush_log.specs.FlushText.{flush_frames, flushed, HasFrames}
+use Rattle.flush_log.specs.Layout.{is_full_for_flush}
+use Rattle.flush_log.specs.NewStore.{disk_of_new}
 use Rattle.flush_log.specs.declared.text.CommitKind.TheVariants as texts
 use Rattle.flush_log.proofs.ViewLemmas.{weaker}
 use Rattle.recovery.specs.InStep.{IsStore, IsStoreOf}
 use Rattle.recovery.specs.Recovered.{IsLate}
 use Rattle.recovery.specs.StoreOfDisk.{first_store, store_of_disk}
 use Rattle.recovery.proofs.ReadBytes.{kept_self, kept_then}
-use Rattle.engine.specs.Batch.{IsLaterFault}
-use Rattle.engine.specs.Calls.{IsFlushFault}
-use Rattle.engine.specs.Copies.{HoldsSomeStore, IsPutFault, IsCopyFault, most_puts, puts_of}
+use Rattle.engine.specs.Batches.{tree_in_turn}
+use Rattle.engine.specs.Copies.{HoldsSomeStore, IsPutFault, IsCopied, IsCopyFault, after_filling, batches_of, refused_in_turn, store_of_copy}
 use Rattle.engine.specs.Hidden.{HoldsNoStore}
-use Rattle.engine.specs.Refusal.{refusal}
+use Rattle.engine.specs.Late.{after_create, create_refusal, made_unless}
 use Rattle.engine.specs.State.{State, IsSound}
 use Rattle.engine.proofs.HiddenStores.{no_store, none_leaves}
+use Rattle.engine.proofs.TextSteps.{IsFlushFault}
 
 -- ---- refused puts
 
-err_same : {U : Type 0} (f g : Fault) → (let a : Result U Fault = Err f in a) ≡ Err g → f ≡ g
-err_same f g h = cc
+-- `t` is the tree that the batches of a copy leave of the tree `start`, and none of them is refused
+abbrev pub ArePut : Settings → Tree → Pairs Bytes → Tree → Type 0
+ArePut s start all t = (t ≡ tree_in_turn s start (batches_of all)) × (refused_in_turn s start (batches_of all) ≡ None)
 
-abbrev some_fault : Fault → Option Fault
-some_fault x = Some x
+-- the same fault, of the first store
+pub put_fault : (s : Settings) (start : Store) (all : Pairs Bytes) (fault : Fault) → start ≡ first_store
+    → (fault ≡ NoMemory) ⊎ (refused_in_turn s start.tree (batches_of all) ≡ Some fault) → IsPutFault s all fault
+put_fault s start all fault first why =
+    subst (λ (st : Store). (fault ≡ NoMemory) ⊎ (refused_in_turn s st.tree (batches_of all) ≡ Some fault)) first why
 
-late_put : (s : Settings) (all : Pairs Bytes) (t : Tree) (cs : List (Command Global)) (fault : Fault) → IsLaterFault s t cs fault → IsPutFault s all fault
-late_put s all t cs fault (inl memory) = inl memory
-late_put s all t cs fault (inr (spent, high)) = inr (inl spent)
+-- ---- the bytes of the disk decide neither the store after a commit nor its fault
 
-right_by : {U : Type 0} (s : Settings) (all : Pairs Bytes) (t : Tree) (cs : List (Command Global)) (place : ℕ) (o : Option Fault) (r : Result U Fault) (fault : Fault)
-    → cs ≡ puts_of (take most_puts (drop place all)) → refusal s cs ≡ o → MatchOption o (IfErr r (IsLaterFault s t cs)) (λ f. r ≡ Err f) → r ≡ Err fault → IsPutFault s all fault
-right_by {U = U} s all t cs place None r fault is none later e = late_put s all t cs fault (subst (λ (x : Result U Fault). IfErr x (IsLaterFault s t cs)) e later)
-right_by {U = U} s all t cs place (Some f) r fault is given right e =
-    inr (inr (place, ap (λ (x : List (Command Global)). refusal s x) (sym is) ∙ given ∙ ap some_fault (err_same {U = U} f fault (sym right ∙ e))))
+module _ (s : Settings) (st : Store) (file other : Bytes) where
+  err_commit : (spent is_full : Bool) (now : Store) (old new : Bytes) (fault : Fault)
+      → (let r : Result (Store × Bytes) Fault = if spent then Err Spent else (if is_full then Err Full else Ok (now, old)) in r) ≡ Err fault
+      → (let r : Result (Store × Bytes) Fault = if spent then Err Spent else (if is_full then Err Full else Ok (now, new)) in r) ≡ Err fault
+  err_commit true is_full now old new fault e = e
+  err_commit false true now old new fault e = e
+  err_commit false false now old new fault e = absurd (cc)
 
--- a refused batch of the puts of what comes next
-pub put_refused : {U : Type 0} (s : Settings) (all some left rows : Pairs Bytes) (t : Tree) (puts cs : List (Command Global)) (r : Result U Fault) (fault : Fault) → some ++ left ≡ all → rows ≡ take most_puts left
-    → puts ≡ puts_of rows → cs ≡ puts → MatchOption (refusal s cs) (IfErr r (IsLaterFault s t cs)) (λ f. r ≡ Err f) → r ≡ Err fault → IsPutFault s all fault
-put_refused s all some left rows t puts cs r fault whole first put is given e =
-    let rest : left ≡ drop (length some) all = sym (drop-append_seam some left) ∙ ap (λ (x : Pairs Bytes). drop (length some) x) whole in
-    right_by s all t cs (length some) (refusal s cs) r fault (is ∙ put ∙ ap (λ (x : Pairs Bytes). puts_of x) first ∙ ap (λ (x : Pairs Bytes). puts_of (take most_puts x)) rest) refl given e
+  ok_commit : (spent is_full : Bool) (now next : Store) (old new bytes : Bytes)
+      → (let r : Result (Store × Bytes) Fault = if spent then Err Spent else (if is_full then Err Full else Ok (now, old)) in r) ≡ Ok (next, bytes)
+      → (let r : Result (Store × Bytes) Fault = if spent then Err Spent else (if is_full then Err Full else Ok (now, new)) in r) ≡ Ok (next, new)
+  ok_commit true is_full now next old new bytes e = absurd (cc)
+  ok_commit false true now next old new bytes e = absurd (cc)
+  ok_commit false false now next old new bytes e =
+      let same : (let x : Store × Bytes = (now, old) in x ≡ (next, bytes)) = cc in
+      ap (λ (x : Store). (let r : Result (Store × Bytes) Fault = Ok (x, new) in r)) (ap (λ (x : Store × Bytes). x.0) same)
+
+  err_text : (text : List Frame) (fault : Fault) → after_text s st file text ≡ Err fault → after_text s st other text ≡ Err fault
+  err_text [] fault e = absurd (cc)
+  err_text (f ∷ fs) fault e =
+      let m : Commit = flush_commit s st (f ∷ fs) in
+      err_commit (is_spent m.slot) (is_full_for_flush s m.slot.head m.slot.tail) (store_after (flushed st.tree) m.slot) (file_after s file m) (file_after s other m) fault e
+
+  ok_text : (text : List Frame) (now : Store) (bytes : Bytes) → after_text s st file text ≡ Ok (now, bytes) → (left : Bytes) × (after_text s st other text ≡ Ok (now, left))
+  ok_text [] now bytes e =
+      let same : (let x : Store × Bytes = (st, file) in x ≡ (now, bytes)) = cc in
+      (other, ap (λ (x : Store). (let r : Result (Store × Bytes) Fault = Ok (x, other) in r)) (ap (λ (x : Store × Bytes). x.0) same))
+  ok_text (f ∷ fs) now bytes e =
+      let m : Commit = flush_commit s st (f ∷ fs) in
+      (file_after s other m, ok_commit (is_spent m.slot) (is_full_for_flush s m.slot.head m.slot.tail) (store_after (flushed st.tree) m.slot) now (file_after s file m) (file_after s other m) bytes e)
+
+  pub err_of_any : (fault : Fault) → after_flush s st file ≡ Err fault → after_flush s st other ≡ Err fault
+  err_of_any fault e = err_text (flush_frames st.version st.tree) fault e
+
+  pub ok_of_any : (now : Store) (bytes : Bytes) → after_flush s st file ≡ Ok (now, bytes) → (left : Bytes) × (after_flush s st other ≡ Ok (now, left))
+  ok_of_any now bytes e = ok_text (flush_frames st.version st.tree) now bytes e
 
 -- ---- a refused flush
 
-pub flush_refused : {D : Type 0} (view : D → View) (x : State D) (all : Pairs Bytes) (file : Bytes) (old new : ℕ) (fault : Fault) → IsSound view x
-    → x.store ≡ with_tree first_store x.store.tree → contents x.store.tree ≡ all → IsFlushFault x.settings x.store file old new fault → IsCopyFault x.settings all old new fault
-flush_refused view x all file old new fault sound log holds (inl right) = inr (inr (record {
-  tree = x.store.tree;
-  file = file;
-  proper = sound.is.proper;
-  holds = holds;
-  refused = subst (λ (st : Store). after_flush x.settings st file ≡ Err fault) log right;
-}))
-flush_refused view x all file old new fault sound log holds (inr (inl (memory, due))) = inl (inl memory)
-flush_refused view x all file old new fault sound log holds (inr (inr (device, failed, would))) = inl (inr (device, failed))
+pub flush_refused : {D : Type 0} (x : State D) (all : Pairs Bytes) (file : Bytes) (old new : ℕ) (fault : Fault)
+    → x.store ≡ with_tree first_store x.store.tree → ArePut x.settings first_store.tree all x.store.tree → IsFlushFault x.settings x.store file old new fault → IsCopyFault x.settings all old new fault
+flush_refused x all file old new fault log put (inl right) =
+    let is : x.store ≡ store_of_copy x.settings all = log ∙ ap (λ (t : Tree). with_tree first_store t) put.0 in
+    inr (inr (put.1, λ other. subst (λ (st : Store). after_flush x.settings st other ≡ Err fault) is (err_of_any x.settings x.store file other fault right)))
+flush_refused x all file old new fault log put (inr (inl (memory, due))) = inl (inl memory)
+flush_refused x all file old new fault log put (inr (inr (device, failed, would))) = inl (inr (device, failed))
 
 -- ---- the disk after it
 
@@ -100,13 +122,39 @@ module _ {D : Type 0} (view : D → View) (failed : D → ℕ) (old mid now : St
   pub fill_rest : (now.settings ≡ mid.settings) × Kept (view mid.disk) (view now.disk) → (now.settings ≡ old.settings) × Kept (view old.disk) (view now.disk)
   fill_rest flushed = (flushed.0 ∙ rest.0, subst (λ (d : D). Kept (view d) (view now.disk)) rest.1 flushed.1)
 
-  pub fill_refused : (fault : Fault) → old.store ≡ first_store → mid.store ≡ with_tree old.store mid.store.tree → contents mid.store.tree ≡ all → IsSound view mid
-      → IsFlushFault mid.settings mid.store (view mid.disk).seen (failed mid.disk) (failed now.disk) fault → IsCopyFault old.settings all (failed old.disk) (failed now.disk) fault
-  fill_refused fault first log holds sound why =
-      let here : mid.store ≡ with_tree first_store mid.store.tree = log ∙ ap (λ (st : Store). with_tree st mid.store.tree) first in
-      subst (λ (d : D). IsCopyFault old.settings all (failed d) (failed now.disk) fault) rest.1
-      (subst (λ (s : Settings). IsCopyFault s all (failed mid.disk) (failed now.disk) fault) rest.0
-      (flush_refused view mid all (view mid.disk).seen (failed mid.disk) (failed now.disk) fault sound here holds why))
+  -- all pairs were put into the first store
+  module _ (first : old.store ≡ first_store) (log : mid.store ≡ with_tree old.store mid.store.tree) (put : ArePut old.settings old.store.tree all mid.store.tree) where
+    log_of_first : mid.store ≡ with_tree first_store mid.store.tree
+    log_of_first = log ∙ ap (λ (st : Store). with_tree st mid.store.tree) first
+
+    put_in_first : ArePut old.settings first_store.tree all mid.store.tree
+    put_in_first = subst (λ (st : Store). ArePut old.settings st.tree all mid.store.tree) first put
+
+    pub fill_refused : (fault : Fault) → IsFlushFault mid.settings mid.store (view mid.disk).seen (failed mid.disk) (failed now.disk) fault → IsCopyFault old.settings all (failed old.disk) (failed now.disk) fault
+    fill_refused fault why =
+        subst (λ (d : D). IsCopyFault old.settings all (failed d) (failed now.disk) fault) rest.1
+        (subst (λ (s : Settings). IsCopyFault s all (failed mid.disk) (failed now.disk) fault) rest.0
+        (flush_refused mid all (view mid.disk).seen (failed mid.disk) (failed now.disk) fault log_of_first (subst (λ (s : Settings). ArePut s first_store.tree all mid.store.tree) (sym rest.0) put_in_first) why))
+
+    pub fill_exact : (bytes : Bytes) × (after_flush mid.settings mid.store (view mid.disk).seen ≡ Ok (now.store, bytes)) → IsCopied old.settings all now.store
+    fill_exact (bytes, done) =
+        let is : mid.store ≡ store_of_copy old.settings all = log_of_first ∙ ap (λ (t : Tree). with_tree first_store t) put_in_first.0 in
+        let under : after_flush old.settings mid.store (view mid.disk).seen ≡ Ok (now.store, bytes) = subst (λ (s : Settings). after_flush s mid.store (view mid.disk).seen ≡ Ok (now.store, bytes)) rest.0 done in (
+          put_in_first.1,
+          λ other.
+              let (left, so) = ok_of_any old.settings mid.store (view mid.disk).seen other now.store bytes under in
+              (left, subst (λ (st : Store). after_flush old.settings st other ≡ Ok (now.store, left)) is so),
+        )
+
+    pub fill_written : (IsTrue (view mid.disk).is_honest → after_flush mid.settings mid.store (view mid.disk).seen ≡ Ok (now.store, (view now.disk).seen))
+        → IsTrue (view old.disk).is_honest → after_filling old.settings all (view old.disk).seen ≡ Ok (now.store, (view now.disk).seen)
+    fill_written after honest =
+        let there : IsTrue (view mid.disk).is_honest = subst (λ (d : D). IsTrue (view d).is_honest) (sym rest.1) honest in
+        let is : mid.store ≡ store_of_copy old.settings all = log_of_first ∙ ap (λ (t : Tree). with_tree first_store t) put_in_first.0 in
+        let under : after_flush old.settings mid.store (view mid.disk).seen ≡ Ok (now.store, (view now.disk).seen) =
+        subst (λ (s : Settings). after_flush s mid.store (view mid.disk).seen ≡ Ok (now.store, (view now.disk).seen)) rest.0 (after there) in
+        subst (λ (d : D). after_filling old.settings all (view d).seen ≡ Ok (now.store, (view now.disk).seen)) rest.1
+        (subst (λ (st : Store). after_flush old.settings st (view mid.disk).seen ≡ Ok (now.store, (view now.disk).seen)) is under)
 
   pub fill_same : now ≡ mid → now.disk ≡ old.disk
   fill_same same = ap (λ (x : State D). x.disk) same ∙ rest.1
@@ -239,3 +287,24 @@ pub made_bytes : {D Y : Type 0} (view : D → View) (r : Result (State D) Y) (s 
     → IfOk r (λ copy. (store_of_disk (view copy.disk).seen ≡ Ok (t, copy.store)) × IsSynced (view copy.disk))
 made_bytes view (Ok copy) s t same bytes = (subst (λ (x : Settings). store_of_disk (view copy.disk).seen ≡ Ok (x, copy.store)) same bytes.0, bytes.1)
 made_bytes view (Err e) s t same bytes = tt
+
+-- the copy is exact under the settings that were chosen
+pub made_exact : {D : Type 0} (r : Result (State D) (Fault × D)) (s t : Settings) (all : Pairs Bytes) → s ≡ t → IfOk r (λ copy. IsCopied s all copy.store) → IfOk r (λ copy. IsCopied t all copy.store)
+made_exact r s t all same is = subst (λ (u : Settings). IfOk r (λ copy. IsCopied u all copy.store)) same is
+
+-- the bytes of a disk on which a store was made
+created_by : (o : Option Fault) (s : Settings) (file bytes : Bytes) (st : Store) → made_unless o s file ≡ Ok (st, bytes) → bytes ≡ disk_of_new s file
+created_by None s file bytes st e =
+    let same : (let x : Store × Bytes = (first_store, disk_of_new s file) in x ≡ (st, bytes)) = cc in
+    sym (ap (λ (x : Store × Bytes). x.1) same)
+created_by (Some fault) s file bytes st e = absurd (cc)
+
+pub created_bytes : (s : Settings) (file bytes : Bytes) (st : Store) → after_create s file ≡ Ok (st, bytes) → bytes ≡ disk_of_new s file
+created_bytes s file bytes st e = created_by (create_refusal s (length file)) s file bytes st e
+
+-- so is the copy, of the bytes that the disk held
+pub made_written : {D : Type 0} (view : D → View) (r : Result (State D) (Fault × D)) (s t : Settings) (all : Pairs Bytes) (file before : Bytes) (st : Store) → s ≡ t → after_create t before ≡ Ok (st, file)
+    → IfOk r (λ copy. after_filling s all file ≡ Ok (copy.store, (view copy.disk).seen)) → IfOk r (λ copy. after_filling t all (disk_of_new t before) ≡ Ok (copy.store, (view copy.disk).seen))
+made_written view r s t all file before st same made is =
+    subst (λ (u : Settings). IfOk r (λ copy. after_filling u all (disk_of_new t before) ≡ Ok (copy.store, (view copy.disk).seen))) same
+    (subst (λ (f : Bytes). IfOk r (λ copy. after_filling s all f ≡ Ok (copy.store, (view copy.disk).seen))) (created_bytes t before file st made) is)

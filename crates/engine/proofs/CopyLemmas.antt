@@ -1,4 +1,4 @@
--- Pairs that are put in the order of their keys, some at a time, after those that are there.
+-- Pairs that are put in the order of their keys, some at a time, after the present ones.
 use Rattle.std.proofs.Common.{◌≡◌, ◌≢◌, ◌∙◌, ℕ, suc, ◌<◌, ◌≤◌, ◌+◌, List, [], ◌∷◌, ◌++◌, length, take, drop, Option, Some, None, MatchOption, Less, refl, sym, ap, subst, append_assoc, length-append, arith}
 use Rattle.std.proofs.lemmas.List.{append-nil, take-append-drop}
 use Rattle.std.specs.List.{AllByRecursion}
@@ -13,7 +13,7 @@ use Rattle.keys.proofs.MapLemmas.{order_itself, flipped_less, IsBelowAll}
 use Rattle.engine.specs.Copies.{puts_of, last_key, IsBegun}
 use Rattle.engine.proofs.NumbersLemmas.{all_within}
 
--- ---- what is put after all
+-- ---- a pair that is put after all others
 
 -- the key is above each of these
 abbrev IsAboveAll : Bytes → List Bytes → Type 0
@@ -47,7 +47,7 @@ next_put all m es k v r same =
     ∙ append_assoc m ((k, v) ∷ []) es
     ∙ same
 
--- ---- what comes after a key
+-- ---- the pairs after a key
 
 from_all : (k : Bytes) (es : Pairs Bytes) → IsBelowAll k (keys_of es) → in_range k None es ≡ es
 from_all k [] a = refl
@@ -106,7 +106,7 @@ unfolding IsStrictlySortedBy
 rising_before [] ys r = tt
 rising_before (x ∷ xs) ys r = (first_below x.0 xs ys r.0, rising_before xs ys r.1)
 
--- ---- the rows that come next
+-- ---- the next rows
 
 module _ (all some left : Pairs Bytes) (n : ℕ) (rises : IsRising all) (whole : some ++ left ≡ all) where
   rows_from_last : (k : Bytes) → last_key None some ≡ Some k → (v : Bytes) × (rows k None (suc n) all ≡ (k, v) ∷ take n left)
@@ -115,7 +115,7 @@ module _ (all some left : Pairs Bytes) (n : ℕ) (rises : IsRising all) (whole :
       let cut : all ≡ d ++ (k, v) ∷ left = sym whole ∙ ap (λ (x : Pairs Bytes). x ++ left) is ∙ append_assoc d ((k, v) ∷ []) left in
       (v, ap (λ (x : Pairs Bytes). rows k None (suc n) x) cut ∙ ap (λ (x : Pairs Bytes). take (suc n) x) (from_key d k v left (subst (λ (x : Pairs Bytes). IsRising x) cut rises)))
 
-  -- where there is no last key, they are those from the least key on
+  -- if there is no last key, they are those from the least key on
   pub rows_from_least : last_key None some ≡ None → rows [] None n all ≡ take n left
   rows_from_least last =
       let none : some ≡ [] = none_last some last in
@@ -126,14 +126,14 @@ module _ (all some left : Pairs Bytes) (n : ℕ) (rises : IsRising all) (whole :
   passed_first view None old new rest e h is = absurd (let no : [] ≡ e ∷ rest = sym h.0 ∙ is in cc)
   passed_first view (Some x) old new rest e h is = let same : view x ∷ new ≡ e ∷ rest = sym h ∙ is in cc
 
-  -- else they are those from it on, without the first, which is its own
+  -- otherwise they are those from the last key on, without the first, which is the pair of that key
   pub rows_from_next : {I : Type 0} (view : I → Bytes × Bytes) (o : Option I) (old new : Pairs Bytes) (k : Bytes)
       → MatchOption o ((old ≡ []) × (new ≡ [])) (λ x. old ≡ view x ∷ new) → old ≡ rows k None (suc n) all → last_key None some ≡ Some k → new ≡ take n left
   rows_from_next view o old new k given is last =
       let (v, rest) = rows_from_last k last in
       passed_first view o old new (take n left) (k, v) given (is ∙ rest)
 
-  -- ---- what is put of them
+  -- ---- the puts of these rows
 
   taken : (some ++ take n left) ++ drop n left ≡ all
   taken = append_assoc some (take n left) (drop n left) ∙ ap (λ (x : Pairs Bytes). some ++ x) (take-append-drop n left) ∙ whole
@@ -160,13 +160,13 @@ pub all_there : (all some left : Pairs Bytes) (n : ℕ) → some ++ left ≡ all
 all_there all some [] n whole last = sym (append-nil some) ∙ whole
 all_there all some (e ∷ left) n whole last = absurd (last_stays e.0 (take n left) last)
 
--- no more are there than all
+-- there are no more than all
 pub begun_within : (all some : Pairs Bytes) (key : Option Bytes) → IsBegun all some key → length some ≤ length all
 begun_within all some key begun =
     let long : length all ≡ length some + length begun.left = ap (λ (x : Pairs Bytes). length x) (sym begun.whole) ∙ length-append some begun.left in
     omega (arith, long)
 
--- none are there at first
+-- at first there are none
 pub begun_empty : (all some : Pairs Bytes) → some ≡ [] → IsBegun all some None
 begun_empty all some none = record {
   left = all;
@@ -183,7 +183,7 @@ put_further all some rows last now key rises begun is end after =
     begun_further all some begun.left 4096 rises begun.whole now key (ap (λ (x : Pairs Bytes). last_key None x) (sym is) ∙ end)
     (after ∙ ap (λ (x : Pairs Bytes). map_after_all some (puts_of x)) is)
 
--- or all are there
+-- or all pairs were put
 pub put_all_there : (all some rows : Pairs Bytes) (last : Option Bytes) → (begun : IsBegun all some last) → rows ≡ take 4096 begun.left → last_key None rows ≡ None → some ≡ all
 put_all_there all some rows last begun is end = all_there all some begun.left 4095 begun.whole (ap (λ (x : Pairs Bytes). last_key None x) (sym is) ∙ end)
 

@@ -1,4 +1,4 @@
--- What the making of a store comes to.
+-- The result of creating a store.
 use Rattle.std.specs.Prelude.{◌≡◌, ℕ, ◌<◌, ◌≤◌, nat_lt, IsTrue, Bool, true, false, if◌then◌else◌, List, length, replicate, Option, Some, None, Result, Ok, Err, MatchOption}
 use Rattle.std.specs.Option.{option_or}
 use Rattle.std.proofs.Common.{refl, sym, ap, ◌∙◌, subst, arith}
@@ -25,7 +25,7 @@ use Rattle.recovery.specs.StoreOfDisk.{first_store, store_of_disk}
 use Rattle.engine.specs.Late.{create_refusal, field_fault, after_create, made_unless}
 use Rattle.engine.specs.State.{IsSoundStore, store_in}
 
--- what is made isn't refused
+-- a store that is created is not refused
 pub not_refused : {X U : Type 0} (why : X → Fault) (o : Option X) (r : Result U Fault) (u : U) (P : Type 0) → MatchOption o P (λ x. r ≡ Err (why x)) → r ≡ Ok u → o ≡ None
 not_refused why None r u P h e = refl
 not_refused why (Some fault) r u P h e = absurd (cc)
@@ -38,7 +38,7 @@ none_by (Some f) b e = absurd (cc)
 pub fits : (s : Settings) (size : ℕ) → create_refusal s size ≡ None → (first_bad_field s ≡ None) × (disk_size s ≤ size)
 fits s size e = let parts = none_by (first_bad_field s) (nat_lt size (disk_size s)) e in (parts.0, ltb-false size (disk_size s) parts.1)
 
--- why no store is made: for its first bad field
+-- why no store is created: its settings have a bad field, of which the first is reported
 refused_by : {X U : Type 0} (o : Option Field) (rest : Option Fault) (u : U) (r : Result U Fault) (fault : Fault) (result : Result X Fault) (P : Type 0) → MatchOption o (r ≡ Ok u) (λ field. r ≡ Err (BadSettings field)) → r ≡ Err fault → result ≡ Err fault
     → MatchOption (option_or (field_fault o) rest) P (λ f. result ≡ Err f)
 refused_by None rest u r fault result P given was reported = absurd (cc)
@@ -55,11 +55,11 @@ by_size s size b good is =
     ap (λ (o : Option Field). option_or (field_fault o) (if nat_lt size (disk_size s) then Some DiskTooSmall else None)) good
     ∙ ap (λ (t : Bool). (let o : Option Fault = if t then Some DiskTooSmall else None in o)) is
 
--- else for the size of its disk
+-- otherwise the size of its disk
 pub too_small : (s : Settings) (size : ℕ) → first_bad_field s ≡ None → size < disk_size s → create_refusal s size ≡ Some DiskTooSmall
 too_small s size good less = by_size s size true good (lt-ltb size (disk_size s) less)
 
--- else it isn't refused
+-- otherwise it is not refused
 pub none_refused : (s : Settings) (size : ℕ) → first_bad_field s ≡ None → disk_size s ≤ size → create_refusal s size ≡ None
 none_refused s size good room = by_size s size false good (le-ltb size (disk_size s) room)
 
@@ -71,11 +71,11 @@ new-fits s bytes len small size good is room whole least =
     let long : length bytes ≡ 545 = rw is refl in
     omega (arith, product, long, room, whole, least)
 
--- the slot that says where a log begins and ends, and its version
+-- the slot with the ends and the version of a log
 abbrev pub slot_with : LogEnds → ℕ → ℕ → Version → Slot
 slot_with log root height version = record { sequence = log.sequence; head = log.head; tail = log.tail; root = root; height = height; version = version }
 
--- the slot of what is in memory
+-- the slot of the store in memory
 pub slot-in : (tree : TreeInMemory) (log : LogEnds) (root height : ℕ) (v w : Version) → root ≡ tree.root → height ≡ tree.height → v ≡ w → slot_of (store_in tree log w) ≡ slot_with log root height v
 slot-in tree log root height v w r h is =
     ap (λ (n : ℕ). slot_with log n tree.height w) (sym r) ∙ ap (λ (n : ℕ). slot_with log root n w) (sym h) ∙ ap (λ (x : Version). slot_with log root height x) (sym is)
@@ -84,14 +84,14 @@ slot-in tree log root height v w r h is =
 pub opened-is : (tree : TreeInMemory) (slot : Slot) (log : LogEnds) (root height : ℕ) (version : Version) → slot_with log root height version ≡ slot → store_in tree log version ≡ store_after (tree_of tree) slot
 opened-is tree slot log root height version same = ap (λ (t : Slot). store_after (tree_of tree) t) same
 
--- a new tree under the log of the first slot is the first store
+-- a new tree with the log of the first slot is the first store
 pub first-is : (tree : TreeInMemory) (slot : Slot) (log : LogEnds) (root height : ℕ) (version : Version) → tree ≡ new_in_memory → slot ≡ first_slot → slot_with log root height version ≡ slot → store_in tree log version ≡ first_store
 first-is tree slot log root height version new first same =
     opened-is tree slot log root height version same
     ∙ ap (λ (t : Slot). store_after (tree_of tree) t) first
     ∙ ap (λ (t : TreeInMemory). store_after (tree_of t) first_slot) new
 
--- the disk may be seen otherwise afterwards
+-- the view of the disk may be a different one afterwards
 module _ {D : Type 0} (view : D → View) (s : Settings) (tree : TreeInMemory) (log : LogEnds) (version : Version) (old : View) (new : D) (is : store_in tree log version ≡ first_store) (free : create_refusal s old.size ≡ None)
     (law : IsTrue old.is_honest → Lawful old) (bytes : IsTrue old.is_honest → (view new).seen ≡ disk_of_new s old.seen) where
   pub made-bytes : IsTrue old.is_honest → after_create s old.seen ≡ Ok (store_in tree log version, (view new).seen)

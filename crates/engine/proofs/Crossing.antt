@@ -1,5 +1,5 @@
--- The work on leaves may be shared by threads: the tree that it looks into is lent, and so are the commands. What was made of a leaf may
--- go from one thread to another.
+-- The work on leaves may be shared by threads: the tree that it reads is borrowed, and so are the commands. The result for a leaf may be sent from
+-- one thread to another.
 use denote.Ref.{NamedLft}
 use denote.Struct.Declared.{shape}
 use denote.Struct.Field.{shr_ref_field}

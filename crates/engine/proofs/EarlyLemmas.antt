@@ -1,4 +1,4 @@
--- Early cleans: what is answered if they are refused, and a reading that is held for later ones.
+-- Early cleans: the result if they are refused, and a reading that is held for later ones.
 use Rattle.std.specs.Prelude.{◌≡◌, ◌≢◌, ◌⊎◌, ℕ, ◌+◌, ◌/◌, ◌<◌, min, IsTrue, true, false, List, [], Option, Some, None, Result, Ok, Err, IfOk, IfErr, MatchResult}
 use Rattle.std.proofs.Common.{refl, sym, ap, ◌∙◌, subst, inl, inr, ⊎_elim, arith}
 use Rattle.std.proofs.Math.Nat.{le-max_right}
@@ -23,7 +23,7 @@ use Rattle.engine.proofs.PlayTurn.{crash_on}
 pub some_ahead : (most : ℕ) (s : Settings) → most ≡ most_ahead s → 0 < most
 some_ahead most s is = omega (arith, is, le-max_right (s.segments / 8) 1)
 
--- ---- what is answered
+-- ---- the result
 
 abbrev Said : Type 0
 Said = ℕ × Option PagesRead
@@ -120,7 +120,7 @@ is_other : (fault : Fault) → fault ≡ NoMemory → fault ≢ Device
 is_other fault memory device = absurd (cc)
 
 module _ {D : Type 0} (view : D → View) (failures : D → ℕ) (lawful : (disk : D) → IsTrue (view disk).is_honest → Lawful (view disk)) where
-  -- a clean for which the log was read is refused for lack of memory
+  -- a clean for which the log was read is refused because an allocation failed
   refused_clean : (x : State D) (r : PagesRead) (fault : Fault) → fault ≡ NoMemory → IsSound view x → IsHeld view x r → IsRefusedClean view failures x x fault
   refused_clean x r fault memory sound held =
       let (file, is, reading) = held.read in
@@ -141,7 +141,7 @@ module _ {D : Type 0} (view : D → View) (failures : D → ℕ) (lawful : (disk
   pub memory_on : (x : State D) (r : PagesRead) (fault : Fault) → fault ≡ NoMemory → IsSound view x → IsHeld view x r → IsStoppedOn view failures x 0 fault x
   memory_on x r fault memory sound held = stopped_on view failures lawful x 0 x (none_on view failures lawful x) x fault (refused_clean x r fault memory sound held)
 
-  -- a flush is refused for lack of memory before any clean
+  -- a flush is refused because allocation failed before any clean
   no_memory : (old : State D) → IsSound view old → flush_frames old.store.version old.store.tree ≢ [] → IsStoppedCleaning view failures old old NoMemory
   no_memory old sound due =
       let done = none_cleaned view failures lawful old sound in

@@ -1,5 +1,5 @@
--- A batch some of whose scans end at a nearer key, where they have all their rows: its leaves make of their commands what they make
--- of those with the nearer ends; and replies, plan and all else of the batch are the same.
+-- A batch some of whose scans get a closer end, before which they have all their rows: its leaves give the same results with the closer ends; and the
+-- replies, the plan and everything else of the batch are the same.
 use Rattle.std.specs.Prelude.{◌≡◌, ℕ, suc, ◌<◌, Bool, List, ◌++◌, map, drop, length, slice_get, Option, Some, None, Result, Ok, Err, IfOk}
 use Rattle.std.proofs.Common.{refl, sym, ap, ◌∙◌, subst}
 use Rattle.std.specs.List.{All, AllByRecursion}
@@ -35,7 +35,7 @@ Changes = List (List ℕ × Option (List ℕ))
 
 -- ---- the plan
 
--- the tree that a net run leaves
+-- the tree after a net run
 abbrev pub tree_by : Settings → Tree → Changes → Tree
 tree_by s t run =
     let l = levels_of t in
@@ -48,7 +48,7 @@ tree_by s t run =
       logged = outdate_all (c.outdated ++ shrunk_pids c.tower.above) t.logged;
     }
 
--- the plan knows no scans
+-- the plan does not depend on scans
 pub planned-ended : (s : Settings) (t : Tree) (cs : List (Command Global)) (ends : List (Option (List ℕ))) → planned_tree s t (with_ends cs ends) ≡ planned_tree s t cs
 planned-ended s t cs ends = ap (tree_by s t) (net_run-with_ends (contents t) cs ends)
 
@@ -58,7 +58,7 @@ module _ (cs : List (Command Global)) (ends : List (Option (List ℕ))) where
   pub places-ended : (rs : List Route) → AllByRecursion (λ r. ArePlacesOf (with_ends cs ends) r.places) rs → AllByRecursion (λ r. ArePlacesOf cs r.places) rs
   places-ended rs a = subst (λ (n : ℕ). AllByRecursion (λ r. AllByRecursion (λ place. place < n) r.places) rs) (length-with_ends cs ends) a
 
-  -- what a command is, it is with any end
+  -- the kind of a command is the same with any end
   kind_by : (kind : Command Global → Bool) → ((end : Option (List ℕ)) (c : Command Global) → kind (with_end end c) ≡ kind c) → (end : Option (List ℕ)) (o : Option (Command Global)) → is_some_that kind (option_map (with_end end) o) ≡ is_some_that kind o
   kind_by kind same end None = refl
   kind_by kind same end (Some c) = same end c

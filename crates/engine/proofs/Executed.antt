@@ -1,4 +1,4 @@
--- A batch on a tree: what stays of leaves whose answers were taken.
+-- A batch on a tree: the leaves after their answers were collected.
 use Rattle.std.specs.Prelude.{◌≡◌, ◌<◌, List, [], ◌∷◌, map}
 use Rattle.std.proofs.Common.{refl, ap, inl, inr}
 use Rattle.std.specs.declared.alloc.Global.{Global}
@@ -29,7 +29,7 @@ pub seen_without : (ds : List LeafUpdate) → seen_leaves (map without_answers d
 seen_without [] = refl
 seen_without (d ∷ ds) = ap (λ (xs : List SeenPage). page_seen Leaf d.made.updated ∷ xs) (seen_without ds)
 
--- what a refused climb is answered by
+-- the fault that is returned if the climb fails
 pub fault_is : (s : Settings) (P : Tree → List (Command Global) → Type 0) (r : Refused) (fault : Fault) → fault ≡ fault_by r → ((t : Tree) (cs : List (Command Global)) → P t cs → r ≡ TooHigh → 64 < (planned_tree s t cs).height)
     → (t : Tree) (cs : List (Command Global)) → P t cs → IsLaterFault s t cs fault
 fault_is s P NoMemory fault e f t cs h = inl e

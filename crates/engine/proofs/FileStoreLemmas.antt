@@ -1,4 +1,4 @@
--- What the opening of the store of a file comes to.
+-- The result of opening the store of a file.
 use Rattle.std.specs.Prelude.{MatchOption, MatchResult, IfOk, IfErr, IsSome, replicate, is_some, ◌||◌, IsTrue}
 use Rattle.std.proofs.Common.{◌≡◌, ◌≢◌, ◌⊎◌, inl, inr, ⊎_elim, sym, ap, refl, subst, ◌∙◌, ℕ, zero, suc, ◌<◌, ◌-◌, ◌^◌, Bool, true, false, List, [], ◌∷◌, length, get_or, take, Option, None, Some, Result, Ok, Err, arith}
 use Rattle.std.proofs.lemmas.Bool.{false≢true}
@@ -44,7 +44,7 @@ zeros_first : (file : Bytes) → are_zeros file ≡ true → get_or file 0 0 ≢
 zeros_first [] zeros is = absurd (let none : 0 ≡ 66 = is in omega (arith, none))
 zeros_first (b ∷ file) zeros is = absurd (false≢true (sym (ap (λ (x : ℕ). are_zeros (x ∷ file)) is) ∙ zeros))
 
--- they hold no store
+-- they encode no store
 unfinished_by : (file : Bytes) (hides zeros : Bool) → hides_block file ≡ hides → are_zeros file ≡ zeros → (hides || zeros) ≡ true → HoldsNoStore file
 unfinished_by file true zeros h z is = below_first file (hidden_first (exchanged file) (read_settings (take 64 (exchanged file))) refl h)
 unfinished_by file false true h z is = first_other file (zeros_first file z)
@@ -53,7 +53,7 @@ unfinished_by file false false h z is = absurd (false≢true is)
 pub unfinished_none : (file : Bytes) → is_unfinished file ≡ true → store_of_disk file ≡ Err NotAStore
 unfinished_none file is = no_store file (unfinished_by file (hides_block file) (are_zeros file) refl refl is)
 
--- what decodes otherwise isn't one
+-- a file with another result than `NotAStore` is not unfinished
 finished : (file : Bytes) (b : Bool) → is_unfinished file ≡ b → store_of_disk file ≢ Err NotAStore → is_unfinished file ≡ false
 finished file true is other = absurd (other (unfinished_none file is))
 finished file false is other = is
@@ -90,7 +90,7 @@ ones_finished n = ap (λ (b : Bool). b || are_zeros (replicate (suc n) 1)) (ones
 ones_none : (n : ℕ) → store_of_disk (replicate (suc n) 1) ≡ Err NotAStore
 ones_none n = no_store (replicate (suc n) 1) (first_other (replicate (suc n) 1) (λ is. absurd (let none : 1 ≡ 66 = is in omega (arith, none))))
 
--- ---- what is found
+-- ---- the result for the bytes of a file
 
 none_long : (file : Bytes) → length file ≡ 0 → is_unfinished file ≡ true
 none_long [] long = refl
@@ -110,7 +110,7 @@ err_of fault = Err fault
 nothing_in : {D : Type 0} (file : Bytes) (f : Found D) → f ≡ found.Nothing (disk_found f) → is_unfinished file ≡ true → IsFoundIn file f
 nothing_in file f is unfinished = subst (IsFoundIn file) (sym is) unfinished
 
--- no store, on a disk that was opened in vain
+-- no store was found on the disk that was opened
 module _ {D : Type 0} (view : D → View) (failed : D → ℕ) (old mid : D) (law : IsTrue (view old).is_honest → Lawful (view old))
     (kept : Kept (view old) (view mid)) (same : IsTrue (view old).is_honest → (view mid).seen ≡ (view old).seen) (file : Bytes) (read : IsReadOf (view old) file) where
   abbrev Shape : Result (Found D) (Fault × D) → Type 0
@@ -161,7 +161,7 @@ module _ {D : Type 0} (view : D → View) (failed : D → ℕ) (old mid : D) (la
       let here = not_late (failed old) (failed mid) (store_of_disk file) (subst (λ (f : Fault). (store_of_disk file ≡ Err f) ⊎ IsLate (failed old) (failed mid) f) none reported) in
       by_honesty (counted (λ is. cc)) here r (view old).is_honest refl some shape (exact_before r (λ honest. exact honest none))
 
-  -- a store isn't found without one
+  -- a store is found only if there is one
   pub none_stored : (fault : Fault) (r : Result (Found D) (Fault × D)) (P : State D → Type 0) → Cases fault r → IfOk r (IfStoreFound P)
   none_stored fault r P (inl (other, is)) = subst (λ (q : Result (Found D) (Fault × D)). IfOk q (IfStoreFound P)) (sym is) tt
   none_stored fault (Ok f) P (inr (none, is)) = subst (IfStoreFound P) (sym is) tt
@@ -171,7 +171,7 @@ module _ {D : Type 0} (view : D → View) (failed : D → ℕ) (old mid : D) (la
   kept_found (Ok f) last = kept_then (view old) (view mid) (view (disk_found f)) kept last
   kept_found (Err e) last = tt
 
--- ---- what was found
+-- ---- the store that was found
 
 pub stored_in : {D : Type 0} (file : Bytes) (f : Found D) (x : State D) → f ≡ found.Store x → IsFoundIn file f → (is_unfinished file ≡ false) × (store_of_disk file ≡ Ok (x.settings, x.store))
 stored_in file f x is here = let stored = subst (IsFoundIn file) is here in (store_finished file (x.settings, x.store) stored, stored)
@@ -187,7 +187,7 @@ honest_nothing {D = D} view v f disk is kept honest = subst (λ (g : Found D). I
 
 -- ---- why there is none
 
--- where a call of the disk failed there is a reason
+-- if a call of the disk failed, there is a reason
 abbrev IsReported : Fault → Option Error → OpenFault → Type 0
 IsReported fault reason reported = ((fault ≡ Device) × MatchOption reason (reported ≡ open_fault.Store fault) (λ r. reported ≡ open_fault.File r)) ⊎ ((fault ≢ Device) × (reported ≡ open_fault.Store fault))
 
@@ -199,7 +199,7 @@ of_bytes file fault reason reported is (inl (device, by)) = by_reason reason by 
   by_reason None e = rw e (inr is)
   by_reason (Some r) e = rw e tt
 
--- memory was refused, or a call of the disk failed, which has a reason then
+-- allocation failed, or a call of the disk failed, which has a reason then
 module _ (file : Bytes) (old new : ℕ) (fault : Fault) (reported : OpenFault) where
   late_reported : IsLate old new fault → (reason : Option Error) → (0 < new → IsSome reason) → MatchOption reason (reported ≡ open_fault.Store fault) (λ r. reported ≡ open_fault.File r) → IsFaultOfFile file reported
   late_reported late (Some r) has e = rw e tt
@@ -216,7 +216,7 @@ module _ (file : Bytes) (old new : ℕ) (fault : Fault) (reported : OpenFault) w
 
 -- ---- a new store
 
--- under settings that are in range, on a disk that is long enough
+-- with settings that are in range, on a disk that is long enough
 pub made_late : (s : Settings) (size : ℕ) (P : Type 0) (Q : Fault → Type 0) → first_bad_field s ≡ None → size ≡ disk_size s → MatchOption (create_refusal s size) P Q → P
 made_late s size P Q good long made = subst (λ (o : Option Fault). MatchOption o P Q) (none_refused s size good (omega (arith, long))) made
 
@@ -236,7 +236,7 @@ pub of_new : {D : Type 0} (s : Settings) (file : Bytes) (r : Result (State D) Op
 of_new s file (Ok x) unfinished made refused = inl (unfinished, made)
 of_new s file (Err e) unfinished made refused = refused file
 
--- ---- what is reported
+-- ---- the reported fault
 
 -- a setting is out of range
 pub field_reported : {X U : Type 0} (o : Option Field) (r : Result U Fault) (u : U) (fault : Fault) (reported : Result X OpenFault) (P : Type 0) → MatchOption o (r ≡ Ok u) (λ field. r ≡ Err (BadSettings field)) → r ≡ Err fault

@@ -1,4 +1,4 @@
--- What a map has at a key, and the first of its rows from that key on.
+-- The value of a map at a key, and the first of its rows from that key on.
 use Rattle.std.specs.Prelude.{◌≡◌, ℕ, Bool, true, false, cond, List, [], ◌∷◌, take, Some, None}
 use Rattle.std.proofs.Common.{refl, sym, ap, ◌∙◌, subst, Less}
 use Rattle.std.specs.List.Sorted.{IsStrictlySortedBy}
@@ -37,7 +37,7 @@ first_by false k v e es b r h ih =
     let passed : in_range k None (e ∷ es) ≡ in_range k None es = rw (lower_is_out e.0 k l) refl in
     ap (λ (x : Pairs). take 1 x) passed ∙ ih h
 
--- where the map has a value at the key, that is the first row
+-- if the map has a value at the key, that is the first row
 pub first_there : (k v : List ℕ) (m : Pairs) → IsRising m → value_at k m ≡ Some v → rows k None 1 m ≡ (k, v) ∷ []
 unfolding IsStrictlySortedBy
 first_there k v [] r h = absurd (cc)
@@ -49,7 +49,7 @@ starts_so k v (e ∷ es) h =
     let first : e ≡ (k, v) = cc in
     rw first (ap (λ (b : Bool). cond b (Some v) (value_at k es)) (ap is_eq (order_itself k)))
 
--- where that is the first row, the map has the value at the key
+-- if that is the first row, the map has the value at the key
 pub there_first : (k v : List ℕ) (m : Pairs) → rows k None 1 m ≡ (k, v) ∷ [] → value_at k m ≡ Some v
 there_first k v m h =
     sym (value_at-passing (is_within k None) m k ∙ ap (λ (b : Bool). cond b (value_at k m) None) (within_itself k)) ∙ starts_so k v (in_range k None m) h

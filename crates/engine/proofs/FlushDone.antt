@@ -27,9 +27,10 @@ use Rattle.flush_log.proofs.ViewLemmas.{weaker}
 use Rattle.recovery.specs.InStep.{IsInStep, IsStore, IsStoreOf}
 use Rattle.recovery.specs.StoreOfDisk.{store_of_disk}
 use Rattle.recovery.proofs.FlushBack.{left, text-some}
-use Rattle.engine.specs.Calls.{after_writing, IsOwnText, IsToWrite, WouldWrite, IsWritingFault, with_version, IsWriting}
+use Rattle.engine.specs.Calls.{after_writing, IsOwnText, IsToWrite, WouldWrite, with_version, IsWriting}
 use Rattle.engine.specs.State.{State, IsSound, store_in}
 use Rattle.engine.proofs.CreateLemmas.{slot_with, opened-is}
+use Rattle.engine.proofs.TextSteps.{IsWritingFault}
 
 -- an empty text leaves all
 pub nothing-flushed : (s : Settings) (st : Store) (file : List ℕ) → flush_frames st.version st.tree ≡ [] → after_flush s st file ≡ left st file

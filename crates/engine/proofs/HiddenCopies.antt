@@ -1,4 +1,4 @@
--- A copy on a disk that hides it, which is revealed once it is whole.
+-- A copy on a disk that hides it, which is revealed when it is complete.
 use Rattle.std.specs.Prelude.{◌≡◌, ◌≢◌, ℕ, Bool, false, Result, Ok, MatchResult, IfOk, IfErr}
 use Rattle.std.proofs.Common.{sym, ap, ◌∙◌, subst, inl, inr}
 use Rattle.keys.specs.Bytes.{Bytes, Pairs}
@@ -12,7 +12,7 @@ use Rattle.flush_log.proofs.ViewLemmas.{only_then, weaker}
 use Rattle.recovery.specs.Recovered.{IsLate}
 use Rattle.recovery.specs.StoreOfDisk.{store_of_disk}
 use Rattle.recovery.proofs.ReadBytes.{kept_then}
-use Rattle.engine.specs.Copies.{HoldsSomeStore, IsCopyFault, IsLeftCopying, IsLeftFilling}
+use Rattle.engine.specs.Copies.{HoldsSomeStore, after_filling, IsCopied, IsCopyFault, IsLeftCopying, IsLeftFilling}
 use Rattle.engine.specs.Hidden.{exchanged, exchanged_view, HoldsNoStore, IsLeftHiding, IsLeftRevealing, revealed}
 use Rattle.engine.specs.State.{State}
 use Rattle.engine.proofs.HiddenLemmas.{only_back}
@@ -82,6 +82,19 @@ module _ {D : Type 0} (view : D → View) (failed : D → ℕ) (s : Settings) (a
             ∙ subst (λ (t : Settings). store_of_disk (exchanged (view mid).seen) ≡ Ok (t, x.store)) is (subst (λ (st : Store). store_of_disk (exchanged (view mid).seen) ≡ Ok (settings, st)) (sym h.1) stands),
         k.1,
       )) same bytes
+
+  -- it is the exact copy still
+  pub shown_exact : IsCopied s all whole → IfOk r Same → IfOk r (λ x. IsCopied s all x.store)
+  shown_exact copied same = if_ok r Same Same (λ x. IsCopied s all x.store) (λ x h k. subst (λ (st : Store). IsCopied s all st) (sym h.1) copied) same same
+
+  pub shown_written : after_filling s all (exchanged (view old).seen) ≡ Ok (whole, exchanged (view mid).seen) → store_of_disk (exchanged (view mid).seen) ≡ Ok (settings, whole)
+      → IfOk r Same → IfOk r (λ x. ((view x.disk).seen ≡ revealed (view mid).seen) × IsSynced (view x.disk))
+      → IfOk r (λ copy. after_filling s all (exchanged (view old).seen) ≡ Ok (copy.store, (view copy.disk).seen))
+  shown_written made stands same bytes =
+      if_ok r Same (λ x. ((view x.disk).seen ≡ revealed (view mid).seen) × IsSynced (view x.disk)) (λ copy. after_filling s all (exchanged (view old).seen) ≡ Ok (copy.store, (view copy.disk).seen))
+      (λ x h k.
+      subst (λ (f : Bytes). after_filling s all (exchanged (view old).seen) ≡ Ok (x.store, f)) (sym (k.0 ∙ shown_is (view mid).seen (settings, whole) stands))
+      (subst (λ (st : Store). after_filling s all (exchanged (view old).seen) ≡ Ok (st, exchanged (view mid).seen)) (sym h.1) made)) same bytes
 
   abbrev Refused : Fault × D → Type 0
   Refused e = (e.0 ≡ Device) × IsLate (failed mid) (failed e.1) e.0 × Kept (view mid) (view e.1)

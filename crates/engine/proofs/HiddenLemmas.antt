@@ -1,4 +1,4 @@
--- What is seen of a disk whose first byte is exchanged, and what that says of the disk.
+-- The view of a disk whose first byte is exchanged, and its consequences for the disk.
 use Rattle.std.proofs.Common.{◌≡◌, ◌≢◌, ◌⊎◌, ◌↔◌, inl, inr, ⊎_elim, ℕ, zero, suc, ◌+◌, ◌-◌, ◌<◌, ◌≤◌, ◌==◌, Bool, true, false, nat_eq, List, [], ◌∷◌, ◌++◌, length, get_or, take, drop, refl, sym, ap, subst, ◌∙◌, arith, Option, Some, None, Result, Ok, Err, OnOk, eqb-true}
 use Rattle.std.proofs.lemmas.List.{ext_get_or, get_or-drop, get_or-take, length-drop, length-take, take-take}
 use Rattle.std.proofs.lemmas.Bool.{cases_eq}
@@ -44,7 +44,7 @@ same_first (b ∷ d) [] long same = absurd (cc)
 same_first [] (b ∷ e) long same = absurd (cc)
 same_first (a ∷ d) (b ∷ e) long same = ap exchanged_byte same
 
--- what agrees at some places still does
+-- files that agree at some places still do
 pub agree_exchanged : (Such : ℕ → Type 0) (d e : List ℕ) → AgreeAt Such d e → AgreeAt Such (exchanged d) (exchanged e)
 agree_exchanged Such d e same = record {
   long = length-exchanged e ∙ same.long ∙ sym (length-exchanged d);
@@ -55,7 +55,7 @@ agree_exchanged Such d e same = record {
     each zero such = same_first d e same.long (same.same zero such)
     each (suc i) such = exchanged-other e i ∙ same.same (suc i) such ∙ sym (exchanged-other d i)
 
--- what is written from the second byte on
+-- a write from the second byte on
 pub over_later : (file : List ℕ) (at : ℕ) (bytes : List ℕ) → suc at + length bytes ≤ length file → exchanged (overlay file (suc at) bytes) ≡ overlay (exchanged file) (suc at) bytes
 over_later [] at bytes fits = absurd (omega (arith, fits))
 over_later (f ∷ file) at bytes fits =
@@ -63,7 +63,7 @@ over_later (f ∷ file) at bytes fits =
     ap (λ (k : ℕ). exchanged (take (suc at) (f ∷ file) ++ (bytes ++ drop k (f ∷ file)))) more
     ∙ ap (λ (k : ℕ). take (suc at) (exchanged (f ∷ file)) ++ (bytes ++ drop k (exchanged (f ∷ file)))) (sym more)
 
--- what is written from the first byte on: that one exchanged, and then the others
+-- a write from the first byte on: that byte exchanged, and then the others
 pub over_first : (file : List ℕ) (b : ℕ) (bytes : List ℕ) → 1 ≤ length file → exchanged (overlay (overlay file 0 (exchanged_byte b ∷ [])) 1 bytes) ≡ overlay (exchanged file) 0 (b ∷ bytes)
 over_first [] b bytes fits = absurd (omega (arith, fits))
 over_first (f ∷ file) b bytes fits =
@@ -73,7 +73,7 @@ over_first (f ∷ file) b bytes fits =
     ∙ ap (λ (x : ℕ). x ∷ (bytes ++ drop (length bytes) file)) (byte_back b)
     ∙ ap (λ (k : ℕ). b ∷ (bytes ++ drop k (exchanged (f ∷ file)))) none
 
--- what is written elsewhere, or is nothing
+-- a write elsewhere, or of no bytes
 over_rest : (file : List ℕ) (at : ℕ) (bytes : List ℕ) → (0 < at) ⊎ (length bytes ≡ 0) → at + length bytes ≤ length file → exchanged (overlay file at bytes) ≡ overlay (exchanged file) at bytes
 over_rest file zero [] where_it_is fits = refl
 over_rest file zero (b ∷ bytes) (inl low) fits = absurd (omega (arith, low))
@@ -85,7 +85,7 @@ pub written_rest : {E : Type 0} (r : Result (Unit {0}) E) (file new : List ℕ) 
 written_rest (Ok u) file new at bytes where_it_is fits is = ap exchanged is ∙ over_rest file at bytes where_it_is fits
 written_rest (Err e) file new at bytes where_it_is fits is = tt
 
--- some bytes are at least one
+-- a nonempty string has at least one byte
 pub some_bytes : (bytes : List ℕ) → (length bytes == 0) ≡ false → 1 ≤ length bytes
 some_bytes [] h = absurd (cc)
 some_bytes (b ∷ bytes) h = omega arith
@@ -133,7 +133,7 @@ elapses_exchanged a b time = record {
   keeps = λ t c le left. ⊎_elim (λ was. (was.0, time.keeps t was.0 le (inl was.1), was.2)) (λ now. (now.0, time.keeps t now.0 le (inr now.1), now.2)) left;
 }
 
--- a run by steps that may be exchanged
+-- a run by steps, with the first byte exchanged
 leaves_exchanged : (a b : View) (step : List ℕ → List ℕ → Type 0) → ((d e : List ℕ) → step d e → step (exchanged d) (exchanged e)) → Leaves a b step → Leaves (exchanged_view a) (exchanged_view b) step
 leaves_exchanged a b step so run = record {
   time = elapses_exchanged a b run.time;
@@ -163,7 +163,7 @@ settled_exchanged v is_synced = record {
   only = λ c left. left.2 ∙ ap exchanged (is_synced.only left.0 left.1);
 }
 
--- ---- and what is known of a disk by what is seen of it
+-- ---- the facts about a disk that follow from its view
 
 exchanged_same : (c d : List ℕ) → exchanged c ≡ exchanged d → c ≡ d
 exchanged_same c d same = sym (bytes_back c) ∙ ap exchanged same ∙ bytes_back d
@@ -184,14 +184,14 @@ only_back a b P run = record {
       (run.before t (exchanged c) le (c, left, refl));
 }
 
--- ---- bytes that hold no store
+-- ---- bytes that encode no store
 
 none_by : (c : List ℕ) (o : Option Settings) → take 8 c ≢ store_magic → read_settings (take 64 c) ≡ o → where_it_has_room c o ≡ Err NotAStore
 none_by c None other is = refl
 none_by c (Some s) other is =
     absurd (other (sym (take-take 8 64 c (omega arith)) ∙ ap (take 8) (settings-stand (take 64 c) s is).0))
 
--- without the word that a settings block begins with
+-- without the magic word of a settings block
 pub no_magic : (c : List ℕ) → take 8 c ≢ store_magic → HoldsNoStore c
 no_magic c other = none_by c (read_settings (take 64 c)) other refl
 
@@ -203,7 +203,7 @@ second_other c other = no_magic c (λ is. other (sym (get_or-take 8 c 1 0 (omega
 
 -- ---- the first byte of a store is torn
 
--- what it may leave: the same, or no store
+-- the outcomes: the same store, or no store
 torn_away : (file c : List ℕ) → get_or file 0 0 ≡ 66 → Torn 0 1 file c → IsLeftHiding file c
 torn_away file c store torn = elim (cases_eq (get_or c 0 0) 66) [
   | inl same ↦ inl (ext_get_or 0 c file torn.long (λ i less. each i same))
@@ -226,7 +226,7 @@ module _ (old new : View) (is_synced : IsSynced old) where
       leaves_only old new (Torn 1 n) HoldsNoStore
       (λ d c might torn. first_other c (λ is. other (sym (torn.same 0 (inl (omega arith)) ∙ ap (λ (f : List ℕ). get_or f 0 0) (is_synced.only d might)) ∙ is))) run
 
-  -- while the second byte is 0 the first may be any
+  -- while the second byte is 0, the first may be any byte
   pub first_written : get_or old.seen 1 0 ≡ 0 → Leaves old new (Torn 0 1) → LeavesOnly old new HoldsNoStore
   first_written none run =
       leaves_only old new (Torn 0 1) HoldsNoStore
@@ -254,13 +254,13 @@ module _ (old new : View) (is_synced : IsSynced old) where
 pub second_is : (file new : List ℕ) → 2 ≤ length file → new ≡ overlay file 1 (0 ∷ []) → get_or new 1 0 ≡ 0
 second_is file new room is = ap (λ (f : List ℕ). get_or f 1 0) is ∙ overlay-at file 1 (0 ∷ []) 1 0 (omega (arith, room)) (omega arith) (omega arith)
 
--- ---- what is written hidden
+-- ---- writes to a hidden store
 
 exchanged_zero : (c : List ℕ) → 1 ≤ length c → get_or c 0 0 ≡ 0 → get_or (exchanged c) 0 0 ≡ 66
 exchanged_zero [] some is = absurd (omega (arith, some))
 exchanged_zero (b ∷ c) some is = ap exchanged_byte is
 
--- a file, one that is cleared, and that with the bytes of a store after the first
+-- a file, the cleared file, and the cleared file with all bytes of a store except the first
 pub hidden_is : (file mid bytes : List ℕ) → 2 ≤ length bytes → length bytes ≤ length file → get_or bytes 0 0 ≡ 66 → IsCleared file mid
     → exchanged (overlay mid 1 (take (length bytes - 1) (drop 1 bytes))) ≡ overlay file 0 bytes
 hidden_is file mid bytes some room store cleared =

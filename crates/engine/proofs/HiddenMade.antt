@@ -1,4 +1,4 @@
--- A new store on a disk that hides it, which is revealed at once.
+-- A new store on a disk that hides it, and that reveals it at once.
 use Rattle.std.specs.Prelude.{◌≡◌, ◌≢◌, ℕ, Bool, false, [], get_or, Option, Some, None, Result, Ok, Err, MatchOption, MatchResult, IfOk, IfErr, IsErr}
 use Rattle.std.proofs.Common.{refl, sym, ap, ◌∙◌, subst}
 use Rattle.keys.specs.Bytes.{Bytes}
@@ -22,7 +22,7 @@ no_error : {X Y : Type 0} (r : Result X Y) (made : X) → r ≡ Ok made → IsEr
 no_error (Ok x) made is e = absurd (cc)
 no_error (Err y) made is e = absurd (cc)
 
--- the store that was hidden on a disk `mid`, which was `old`; `r` is what the revealing of it answered
+-- the store that was hidden on a disk `mid`, which was `old` before; `r` is the result of revealing it
 module _ {D : Type 0} (view : D → View) (failed : D → ℕ) (settings : Settings) (store : Store) (fails : Bool) (old mid : D) (r : Result (State D) (Fault × D)) where
   abbrev Same : State D → Type 0
   Same x = (x.settings ≡ settings) × (x.store ≡ store) × (x.has_failed ≡ fails)

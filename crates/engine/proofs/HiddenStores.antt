@@ -1,4 +1,4 @@
--- A store on a disk that hides it: what that says of the disk below, and what a crash leaves there.
+-- A store on a disk that hides it: the consequences for the disk below, and the outcomes of a crash there.
 use Rattle.std.specs.Prelude.{◌≡◌, ℕ, ◌≤◌, IsTrue, Bool, [], ◌∷◌, length, get_or, Option, Some, None, Result, Ok, Err, MatchResult, IfOk, IfErr}
 use Rattle.std.proofs.Common.{refl, sym, ap, ◌∙◌, subst, inl, inr, arith}
 use Rattle.std.proofs.lemmas.Bool.{cases_eq}
@@ -26,14 +26,14 @@ use Rattle.engine.proofs.HiddenLemmas.{first_other, revealed_is}
 pub no_store : (c : Bytes) → HoldsNoStore c → store_of_disk c ≡ Err NotAStore
 no_store c none = ap (λ (r : Result Settings Fault). and_then r (λ s. store_under s c)) none
 
--- what holds a store has the first byte of one
+-- bytes that encode a store begin with the first byte of one
 pub store_first : (c : Bytes) (x : Settings × Store) → store_of_disk c ≡ Ok x → get_or c 0 0 ≡ 66
 store_first c x is = elim (cases_eq (get_or c 0 0) 66) [
   | inl same ↦ same
   | inr other ↦ absurd (let none = no_store c (first_other c other) in cc)
 ]
 
--- what is seen with that byte is stored without it
+-- if the view has that byte, the bytes on the disk below encode no store
 pub below_first : (c : Bytes) → get_or (exchanged c) 0 0 ≡ 66 → HoldsNoStore c
 below_first [] first = absurd (let none : 0 ≡ 66 = first in omega (arith, none))
 below_first (b ∷ c) first = first_other (b ∷ c) (λ is. absurd (let none : 0 ≡ 66 = ap exchanged_byte (sym is) ∙ first in omega (arith, none)))
@@ -41,7 +41,7 @@ below_first (b ∷ c) first = first_other (b ∷ c) (λ is. absurd (let none : 0
 pub below_store : (c : Bytes) (x : Settings × Store) → store_of_disk (exchanged c) ≡ Ok x → HoldsNoStore c
 below_store c x is = below_first c (store_first (exchanged c) x is)
 
--- what is seen is what is revealed
+-- the view is what is revealed
 pub shown_is : (c : Bytes) (x : Settings × Store) → store_of_disk (exchanged c) ≡ Ok x → revealed c ≡ exchanged c
 shown_is c x is = revealed_is c (exchanged c) refl (store_first (exchanged c) x is)
 
@@ -50,7 +50,7 @@ new_first s disk = refl
 
 -- ---- crashes
 
--- without a call a settled disk stays
+-- without a call a synced disk is unchanged
 pub none_leaves : (v : View) (P : Bytes → Type 0) → Lawful v → IsSynced v → P v.seen → LeavesOnly v v P
 none_leaves v P law is_synced here = record {
   later = omega arith;
@@ -99,7 +99,7 @@ hiding_leaves old new s run = weaker old new (IsLeftHiding old.seen) (IsLeftCrea
 ok_same : {X E : Type 0} (x y : X) → (let r : Result X E = Ok x in r) ≡ Ok y → x ≡ y
 ok_same x y h = cc
 
--- what the making of a store leaves, by its result
+-- the disk after creating a store, by its result
 pub after_create_is : (s : Settings) (file : Bytes) (st : Store) (now : Bytes) → after_create s file ≡ Ok (st, now) → now ≡ disk_of_new s file
 after_create_is s file st now is = by (create_refusal s (length file)) is
   where

@@ -25,7 +25,7 @@ pub map_in_turn-flat : {A : Type 0} → (m : List (List ℕ × List ℕ)) (bs : 
 map_in_turn-flat m [] = refl
 map_in_turn-flat m (b ∷ bs) = map_in_turn-flat (map_after_all m b) bs ∙ sym (map_after_all-append m b (flat bs))
 
--- ---- the trees in turn
+-- ---- the trees after each batch
 
 module _ {A : Type 0} (s : Settings)
     (holds : (t : Tree) (b : List (Command A)) → IsProper s t → contents (planned_tree s t b) ≡ map_after_all (contents t) b)

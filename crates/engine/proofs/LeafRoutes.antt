@@ -1,4 +1,4 @@
--- The routes of a level of leaves that are at home: where they go, and what stands there.
+-- The routes of a level of leaves that are in the table: where they go, and which pages are there.
 use Rattle.std.specs.Prelude.{◌≡◌, ◌≢◌, ℕ, Bool, true, false, cond, List, [], ◌∷◌, ◌++◌, map, length, Option, Some, None, IsSome}
 use Rattle.std.proofs.Common.{sym, ap, ◌∙◌, subst, arith, append_assoc}
 use Rattle.std.specs.List.{AllByRecursion}
@@ -44,12 +44,12 @@ module _ {A : Type 0} (cs : List (Command A)) where
   abbrev place_pids : List Place → List ℕ
   place_pids ats = map (λ at. at.pid) ats
 
-  -- what holds of the pids of all places holds of those that routes go to
+  -- what holds for the pids of all places holds for the pids of routes
   pub all-route_pids : (P : ℕ → Type 0) (ats : List Place) → AllByRecursion P (place_pids ats) → AllByRecursion P (route_pids (kept cs ats))
   all-route_pids P [] a = tt
   all-route_pids P (at ∷ ats) a = all_if P (has_places (route_to cs at)) (route_to cs at) (kept cs ats) a.0 (all-route_pids P ats a.1)
 
-  -- and they are distinct if those are
+  -- and the latter are distinct if the former are
   pub distinct-route_pids : (ats : List Place) → Distinct (place_pids ats) → Distinct (route_pids (kept cs ats))
   distinct-route_pids [] d = tt
   distinct-route_pids (at ∷ ats) d =
@@ -65,13 +65,13 @@ module _ {A : Type 0} (cs : List (Command A)) where
 pub pids-ranges : {V : Type 0} (level : List (Placed V)) → map (λ (at : Place). at.pid) (ranges level) ≡ pids level
 pids-ranges level = pids-children (names level) None ∙ values_of-names level
 
--- ---- leaves at home
+-- ---- leaves in the table
 
--- a leaf is at home
+-- a leaf is in the table
 abbrev pub IsHomeLeaf : Mapping PageOfKind → Placed (List ℕ) → Type 0
 IsHomeLeaf t p = page_of t p.pid ≡ Some (Leaf p.page)
 
--- the leaves of a tree whose pages are at home
+-- the leaves of a tree whose pages are in the table
 pub home_leaves : (t : Mapping PageOfKind) (level : List (Placed (List ℕ))) → AllByRecursion (λ e. IsSome e.1) t.places → HasLeaves (home_pages t.places) level → AllByRecursion (IsHomeLeaf t) level
 home_leaves t level home h =
     all_weaker (λ (p : Placed (List ℕ)). page_at (home_pages t.places) p.pid ≡ Some (Leaf p.page)) (IsHomeLeaf t) (λ p listed. page-home t.places p.pid home ∙ listed) level h
@@ -83,9 +83,9 @@ pub leaves_there : (t : Mapping PageOfKind) (level : List (Placed (List ℕ))) �
 leaves_there t [] h = tt
 leaves_there t (p ∷ ps) h = (is_leaf (page_of t p.pid) p.page h.0, leaves_there t ps h.1)
 
--- ---- what a leaf has of its level
+-- ---- the part of its level that a leaf has
 
--- a leaf is at home at the place, and has the part of a map that lies in the place's range
+-- a leaf is in the table at the place, and has the part of a map that lies in the place's range
 pub record HoldsPart (t : Mapping PageOfKind) (m : List (List ℕ × List ℕ)) (at : Place) : Type 0 where
   pub leaf : Page (List ℕ)
   pub home : page_of t at.pid ≡ Some (Leaf leaf)

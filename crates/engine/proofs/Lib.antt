@@ -1,5 +1,6 @@
 mod Admitted
 mod Answered
+mod AsBefore
 pub mod BatchDone
 mod BatchInStep
 mod BatchLeaves
@@ -16,6 +17,7 @@ mod CommandsWithin
 mod CompactedLemmas
 mod CompactedStores
 mod ContentsFit
+mod CopyChunks
 mod CopyDone
 mod CopyLemmas
 mod CreateLemmas
@@ -36,13 +38,16 @@ mod NeutralLemmas
 mod NumbersLemmas
 mod OneClean
 mod OneLeaf
+mod OneStepLemmas
 mod OpenedLemmas
 mod OutdatedTables
 mod OwnRuns
 mod PartAnswers
 mod PartedLemmas
 mod PendingLemmas
+mod PlayAsBefore
 mod PlayLemmas
+mod PlayStopped
 mod PlayTurn
 mod PointsLemmas
 mod ReadBatch

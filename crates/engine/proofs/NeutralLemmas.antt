@@ -1,4 +1,4 @@
--- Commands that change nothing of what a map holds.
+-- Commands that do not change a map.
 use Rattle.std.specs.Prelude.{cond}
 use Rattle.std.proofs.Common.{◌≡◌, ◌∙◌, Bool, List, [], ◌∷◌, ◌++◌, Some, None, true, false, refl, sym, ap}
 use Rattle.std.specs.Ordering.{is_eq}
@@ -12,7 +12,7 @@ use Rattle.keys.specs.declared.command.Command.TheVariants.{Put, Del}
 use Rattle.keys.proofs.MapLemmas.{is_itself, passes_same, same_map, rising-with_pair, rising-without, value_at-with_pair_here, value_at-with_pair_elsewhere, value_at-without}
 use Rattle.keys.proofs.RunLemmas.{map_after_all-append}
 
--- ---- a put of what stands there
+-- ---- a put of the present value
 
 put_same : (m : Pairs Bytes) (k v : Bytes) → value_at k m ≡ Some v → (b : Bool) (q : Bytes) → is_eq (order q k) ≡ b → value_at q (with_pair m k v) ≡ value_at q m
 put_same m k v here true q same = rw (passes_same q k same) (value_at-with_pair_here m k v ∙ sym here)
@@ -21,7 +21,7 @@ put_same m k v here false q apart = value_at-with_pair_elsewhere m k q v (λ e. 
 neutral_put : (m : Pairs Bytes) (k v : Bytes) → IsRising m → value_at k m ≡ Some v → with_pair m k v ≡ m
 neutral_put m k v r here = same_map (with_pair m k v) m (rising-with_pair m k v r) r (λ q. put_same m k v here (is_eq (order q k)) q refl)
 
--- ---- a put and a delete where nothing stands
+-- ---- a put and a delete of an absent key
 
 deleted_by : (m : Pairs Bytes) (k v : Bytes) → value_at k m ≡ None → (b : Bool) (q : Bytes) → is_eq (order k q) ≡ b → cond b None (value_at q (with_pair m k v)) ≡ value_at q m
 deleted_by m k v none true q same = sym (ap (λ (x : Bytes). value_at x m) (sym (passes_same k q same)) ∙ none)

@@ -1,4 +1,4 @@
--- The numbers to run a store by: whether a flush is due, and how many pairs there are.
+-- Numbers for the maintenance of a store: whether a flush is due, and how many pairs there are.
 use Rattle.std.specs.Prelude.{◌≡◌, ◌≢◌, ◌↔◌, ℕ, ◌^◌, ◌-◌, ◌<◌, Bool, IsTrue, true, false, not, List, [], ◌∷◌, length, min, take, Option, None}
 use Rattle.std.proofs.Common.{refl, ap, arith}
 use Rattle.std.proofs.lemmas.List.{length-take}

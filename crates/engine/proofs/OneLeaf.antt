@@ -1,4 +1,4 @@
--- A batch that goes to one leaf: what it answers, that the tree without it is ready, and the way back.
+-- A batch that goes to one leaf: its replies, the tree without the leaf, which is ready to climb, and how the batch is undone.
 use Rattle.std.specs.Prelude.{◌≡◌, ℕ, ◌+◌, ◌<◌, ◌≤◌, Bool, true, false, not, ◌&&◌, ◌||◌, length, map, List, [], ◌∷◌, slice_get, Option, Some, None, IsSome, Result, Ok, Err, OnOk, OnErr, IfErr}
 use Rattle.std.proofs.Common.{refl, sym, ap, ◌∙◌, subst, append-nil}
 use Rattle.std.specs.List.{AllByRecursion, filter}
@@ -53,14 +53,14 @@ module _ (s : Settings) (m : TreeInMemory) (cs : List (Command Global)) (sound :
   there : AreLeafRoutes m.table cs (r ∷ [])
   there = subst (λ (rs : List Route). AreLeafRoutes m.table cs rs) only (routes_are_leaves s m cs sound.home sound.sound.proper)
 
-  -- the leaf is at home
+  -- the leaf is in the table
   pub at_home : IsSome (page_of m.table r.pid)
   at_home = some_leaf (page_of m.table r.pid) there.home.0
 
   pub may_read : IsRouteToRead m cs r
   may_read = record { home = there.home.0; places = there.places.0 }
 
-  -- ---- what it answers
+  -- ---- its answers
 
   all_of_it : answers (leaves_made s cs m.table (routes (levels_of (tree_of m)).level cs)) ≡ (leaf_made s cs (leaf_held m.table r)).pieces
   all_of_it = ap (λ (rs : List Route). answers (leaves_made s cs m.table rs)) only ∙ append-nil (leaf_made s cs (leaf_held m.table r)).pieces
@@ -72,11 +72,11 @@ module _ (s : Settings) (m : TreeInMemory) (cs : List (Command Global)) (sound :
     pub as_a_map : length (contents (tree_of m)) + length cs ≤ most_counted → (xs : List (Reply Global)) → ((place : ℕ) → slice_get xs place ≡ reply_at cs ps place) → xs ≡ replies_to (contents (tree_of m)) cs
     as_a_map few xs at = answered_as_a_map s m cs sound.home sound.sound.proper few xs (λ place. at place ∙ ap (λ (qs : List (Piece Global)). reply_at cs qs place) (same ∙ sym all_of_it))
 
-  -- where it stays in the tree it answers as where it is worked
+  -- its answers are the same whether it stays in the tree or is updated
   pub read_is : route_answers m cs r ≡ (leaf_made s cs (leaf_held m.table r)).pieces
   read_is = same_answers cs (page_of m.table r.pid) r there.home.0
 
-  -- ---- the leaf, taken and worked
+  -- ---- the leaf, checked out and updated
 
   abbrev every : Route → Bool
   every _ = true
@@ -128,18 +128,18 @@ module _ (s : Settings) (m : TreeInMemory) (cs : List (Command Global)) (sound :
         pub same_pid : d.made.updated.placed.pid ≡ d.held.route.pid
         same_pid = ap (λ (x : LeafMade). x.updated.placed.pid) made ∙ ap (λ (h : LeafHeld). h.route.pid) (sym of)
 
-      -- its place is away
+      -- its place is empty
       pub away : (h : LeafHeld) → h ≡ held → place_of now.table h.route.pid ≡ Some None
       away h e = rw (taken, e) away_without
 
-      -- put back, it is in the tree as it was
+      -- after it is put back, the tree is the same as before
       pub back : (h : LeafHeld) → h ≡ held → (last : TreeInMemory) → last ≡ record now { table = with_place now.table h.route.pid (Some h.page) } → last ≡ m
       back h e last put =
           let page_is : page_or_none (page_of m.table r.pid) ≡ page = ap (λ (o : Option PageOfKind). page_or_none o) found in
           let again : record without { table = with_place without.table r.pid (Some page) } ≡ m = subst (λ (p : PageOfKind). record without { table = with_place without.table r.pid (Some p) } ≡ m) page_is back_again in
           put ∙ rw (taken, e) again
 
--- ---- one worked leaf
+-- ---- one updated leaf
 
 quiet_by : (r a b : Bool) → (not r && not (a || b)) ≡ true → (a ≡ false) × (b ≡ false) × (r ≡ false)
 quiet_by false false false h = (refl, refl, refl)
@@ -147,27 +147,27 @@ quiet_by true a b h = absurd (cc)
 quiet_by false true b h = absurd (cc)
 quiet_by false false true h = absurd (cc)
 
--- a page that is quiet is seen so
+-- a quiet page is quiet in the view of its parent
 seen_quiet : (w : Updated (List ℕ)) → is_quiet w ≡ true → IsSeenQuiet (page_seen Leaf w)
 seen_quiet w h = let q = quiet_by w.replaced (is_thin_class w.class) (is_fat_class w.class) h in record { kept = q.0; small = q.1; same = q.2 }
 
--- what holds of every plan for which the tree is ready
+-- what holds for every plan for which the tree is ready
 abbrev pub ForReady : Settings → TreeInMemory → Updated (List ℕ) → (Tree → List (Command Global) → Type 0) → Type 0
 ForReady s m w P = (t : Tree) (cs : List (Command Global)) → IsReady s t cs m (page_seen Leaf w ∷ []) → P t cs
 
 module _ (s : Settings) (m : TreeInMemory) (w v : Updated (List ℕ)) (same : v ≡ w) where
-  -- the same of the same leaf
+  -- the same for the same leaf
   pub ready_still : (t : Tree) × (cs : List (Command Global)) × IsReady s t cs m (page_seen Leaf w ∷ []) → (t : Tree) × (cs : List (Command Global)) × IsReady s t cs m (page_seen Leaf v ∷ [])
   ready_still h = (h.0, h.1, subst (λ (x : Updated (List ℕ)). IsReady s h.0 h.1 m (page_seen Leaf x ∷ [])) (sym same) h.2)
 
   pub for_still : (P : Tree → List (Command Global) → Type 0) → ForReady s m v P → ForReady s m w P
   for_still P f t cs r = f t cs (subst (λ (x : Updated (List ℕ)). IsReady s t cs m (page_seen Leaf x ∷ [])) (sym same) r)
 
-  -- one that is quiet is put home, and that is the plan
+  -- a quiet leaf is put back, and the result is the plan
   pub quiet_home : 1 < s.fan → is_quiet v ≡ true → (now : TreeInMemory) → now ≡ record m { table = with_place m.table v.placed.pid (Some (Leaf v.placed.page)) } → ForReady s m w (λ t cs. AreAllHome now × (tree_of now ≡ planned_tree s t cs))
   quiet_home fan h now e = for_still (λ t cs. AreAllHome now × (tree_of now ≡ planned_tree s t cs)) (λ t cs r. rw e (put_is_planned s fan t cs m (page_seen Leaf v) r (seen_quiet v h)))
 
--- a leaf that is put back as it was held
+-- a leaf that is put back unchanged
 pub held_back : (m now : TreeInMemory) (g h : LeafHeld) → g ≡ h → now ≡ record m { table = with_place m.table g.route.pid (Some g.page) } → now ≡ record m { table = with_place m.table h.route.pid (Some h.page) }
 held_back m now g h e p = rw (← e) p
 
@@ -194,11 +194,11 @@ module _ (cs : List (Command Global)) (c : Command Global) (r : Route) (pid : �
   pub only_by : (t : Tree) → IsOnlyLeaf t c pid → IsOnlyRoute t cs r
   only_by t h = rw (one, is) h
 
-  -- where the command only looks, it comes to nothing
+  -- if the command only reads, its net run is empty
   pub nothing_by : is_only_read cs r ≡ true → (m : List (List ℕ × List ℕ)) → net_run m cs ≡ []
   nothing_by h m = rw one (net_run-looks m (c ∷ []) (rw (one, is) at h))
 
--- the tree stays sound, whether it is the plan's or as it was
+-- the tree is sound, whether it is the planned one or unchanged
 pub sound_after : {X E : Type 0} (r : Result X E) (s : Settings) (m now : TreeInMemory) (cs : List (Command Global)) → IsSoundInMemory s m → IsProper s (planned_tree s (tree_of m) cs) → AreLogsTrue (planned_tree s (tree_of m) cs)
     → OnOk r (AreAllHome now × (tree_of now ≡ planned_tree s (tree_of m) cs)) → OnOk r (now.height ≤ 64) → OnErr r (now ≡ m) → IsSoundInMemory s now
 sound_after (Ok x) s m now cs sound proper logs planned low same = sound_planned s m now cs sound planned low proper logs

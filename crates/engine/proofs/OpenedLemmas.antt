@@ -1,4 +1,4 @@
--- What the opening of a store on a disk comes to.
+-- The result of opening a store on a disk.
 use Rattle.std.specs.Prelude.{◌≡◌, ◌⊎◌, ℕ, ◌+◌, ◌-◌, ◌^◌, min, ◌≤◌, false, IsTrue, IfOk, Result, Ok, Err}
 use Rattle.std.proofs.Common.{sym, ap, subst, ◌∙◌, inl, inr, ⊎_elim}
 use Rattle.keys.specs.Bytes.{Bytes}
@@ -66,7 +66,7 @@ module _ {D : Type 0} (view : D → View) (s : Settings) (tree : TreeInMemory) (
 pub refused-seen : (v : View) (file : Bytes) (fault : Fault) (L : Type 0) → IsReadOf v file → (store_of_disk file ≡ Err fault) ⊎ L → IsTrue v.is_honest → (store_of_disk v.seen ≡ Err fault) ⊎ L
 refused-seen v file fault L read reported honest = subst (λ (f : Bytes). (store_of_disk f ≡ Err fault) ⊎ L) (read.honest honest) reported
 
--- what was opened of the bytes that were read is what was opened of those that a read gives
+-- the store opened from the bytes that were read is the store opened from the readable contents
 pub opened_seen : {D : Type 0} (failed : D → ℕ) (v : View) (file : Bytes) (count : ℕ) (r : Result (State D) (Fault × D)) → IsReadOf v file → IsOpened failed file count r
     → IsTrue v.is_honest → IsOpened failed v.seen count r
 opened_seen failed v file count r read opened honest = subst (λ (f : Bytes). IsOpened failed f count r) (read.honest honest) opened
@@ -76,7 +76,7 @@ pub failed-first : (v : View) (old new : ℕ) (fault : Fault) → (IsTrue v.is_h
     → (file : Bytes) × IsReadOf v file × ((store_of_disk file ≡ Err fault) ⊎ IsLate old new fault)
 failed-first v old new fault law is count = let (file, read) = first_read v law in (file, read, inr (inr (is, counted_failed old new count)))
 
--- the same of a disk before a call that kept what a read gives
+-- the same for a disk before a call that does not change the readable contents
 pub read_earlier : (a b : View) (file : Bytes) → Kept a b → (IsTrue a.is_honest → b.seen ≡ a.seen) → IsReadOf b file → IsReadOf a file
 read_earlier a b file kept same read = record {
   whole = read.whole ∙ kept.size;
@@ -94,7 +94,7 @@ leaves_still a b c step run same = record {
   crash = λ x left. run.crash x ((same.left_since a.moment x).0 left);
 }
 
--- where a store was opened, its disk is settled if the disk that is left is
+-- if a store was opened, its disk is synced if the returned disk is
 pub settled_where : {D : Type 0} (view : D → View) (r : Result (State D) (Fault × D)) → IsSynced (view (disk_left r)) → IfOk r (λ opened. IsSynced (view opened.disk))
 settled_where view (Ok opened) is_synced = is_synced
 settled_where view (Err refused) is_synced = tt

@@ -1,4 +1,4 @@
--- The tables on the way to an outdated tree: what is under each page id, and what their logs have of it.
+-- The tables while an outdated tree is built: the pages under the page ids, and the log states.
 use Rattle.std.specs.Prelude.{◌≡◌, ℕ, ◌<◌, Bool, true, false, cond, ◌&&◌, ◌||◌, if◌then◌else◌, nat_eq, List, [], ◌∷◌, ◌++◌, map, Option, Some, None, is_some, IfSome, Result, Ok, Err, IfOk}
 use Rattle.std.proofs.Common.{refl, sym, ap, ◌∙◌, subst, eqb-true, eq-eqb}
 use Rattle.std.specs.Ordering.{nat_cmp, is_eq}
@@ -59,7 +59,7 @@ or_none true = refl
 or_none false = refl
 
 module _ (f g : ℕ → Bool) (found rest : List ℕ) where
-  -- one that is logged is pushed
+  -- a logged one is pushed
   pub pids_pushed : (new left : List ℕ) (pid : ℕ) → left ≡ pid ∷ rest → f pid ≡ true → new ≡ found ++ pid ∷ []
       → ((q : ℕ) → (is_among q found || (is_among q left && f q)) ≡ g q) → (q : ℕ) → (is_among q new || (is_among q rest && f q)) ≡ g q
   pids_pushed new left pid l is n h q =
@@ -69,7 +69,7 @@ module _ (f g : ℕ → Bool) (found rest : List ℕ) where
       ∙ ap (λ (x : List ℕ). is_among q found || (is_among q x && f q)) (sym l)
       ∙ h q
 
-  -- any other is passed over
+  -- any other is skipped
   pub pids_passed : (left : List ℕ) (pid : ℕ) → left ≡ pid ∷ rest → f pid ≡ false
       → ((q : ℕ) → (is_among q found || (is_among q left && f q)) ≡ g q) → (q : ℕ) → (is_among q found || (is_among q rest && f q)) ≡ g q
   pids_passed left pid l is h q =
@@ -108,7 +108,7 @@ module _ (pids : List ℕ) (pid : ℕ) (old mid : Places) (room : mid ≡ with_r
   put_by true q e = refl
   put_by false q e = ap (λ (t : Places). place_of t q) room ∙ room_apart (place_of old pid) old pid q e ∙ has q
 
-  -- one is put where the page was away
+  -- one is put if the place was empty
   pub leaf_put : (new : Places) → new ≡ with_place mid pid (Some no_pairs) → HasLeavesAt (pids ++ pid ∷ []) new
   leaf_put new is q =
       ap (λ (t : Places). place_of t q) is
@@ -131,11 +131,11 @@ module _ (pids : List ℕ) (pid : ℕ) (old mid : Places) (room : mid ≡ with_r
       let none : place_of old pid ≡ None = has pid ∙ ap leaf_if e in
       absurd (never (ap (λ (t : Places). place_of t pid) room ∙ room_made (place_of old pid) old pid none))
 
-  -- or it is there
+  -- or it is already there
   pub leaf_there : (place_of mid pid ≡ Some None → ⊥) → HasLeavesAt (pids ++ pid ∷ []) mid
   leaf_there never = there_by (is_among pid pids) refl never
 
--- ---- the log, once it has these leaves
+-- ---- the log, after it has these leaves
 
 abbrev as_logged : Option PageOfKind → Option Logged
 as_logged None = None
@@ -257,7 +257,7 @@ module _ (pids gone : List ℕ) (pid : ℕ) (old : Places) (was : AreFreed pids 
       logged = λ q. gone_log (is_eq (nat_cmp q pid)) q refl ∙ ap (λ (b : Bool). log_if (is_among q pids) b) (sym (more_among q pid gone));
     }
 
--- the page that was taken is away
+-- the place of the page that was checked out is empty
 pub taken_away : (t new : Places) (pid : ℕ) → new ≡ with_place t pid None → place_of new pid ≡ Some None
 taken_away t new pid is =
     ap (λ (x : Places). place_of x pid) is
@@ -287,7 +287,7 @@ pub keys-outdated : (gone : List ℕ) (ls : List (ℕ × Logged)) → keys_of (o
 keys-outdated gone [] = refl
 keys-outdated gone (l ∷ ls) = ap (λ (ns : List ℕ). l.0 ∷ ns) (keys-outdated gone ls)
 
--- what is listed of a page id is true of its page
+-- the log state of a page id is true for its page
 some_same : (l m : Logged) → Some l ≡ Some m → l ≡ m
 some_same l m e = cc
 
@@ -305,7 +305,7 @@ as_true : (o : Option Logged) (page : Option PageOfKind) → ((l : Logged) → o
 as_true None page h = tt
 as_true (Some l) page h = h l refl
 
--- exactly the page ids that are known and logged have something, which is outdated
+-- exactly the page ids that are known and logged have a log state, which is `Old`
 outdated_where : (o : Option Logged) (page : Option PageOfKind) (place : Option (Option PageOfKind)) → IfSome o (λ l. IsTrueOf page l) → at_home place ≡ page
     → (if (is_some place || is_old (or_no o)) && is_logged (or_no o) then Some Old else None) ≡ outdate_if (is_some o) o
 outdated_where None page None h e = refl
@@ -349,7 +349,7 @@ module _ (t : TreeInMemory) (pids : List ℕ) (table : Places) (home : AreAllHom
         ∙ ap (λ (ls : List (ℕ × Logged)). (let x : Tree = record { pages = first_tree.pages; root = 0; height = 1; logged = ls } in x)) (same_logs rises),
   )
 
--- what follows from what an `Ok` gives
+-- a consequence of the value in an `Ok`
 pub ok_then : {X E : Type 0} (P Q : X → Type 0) (r : Result X E) → ((x : X) → P x → Q x) → IfOk r P → IfOk r Q
 ok_then P Q (Ok x) f h = f x h
 ok_then P Q (Err e) f h = tt

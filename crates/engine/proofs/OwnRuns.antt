@@ -26,7 +26,7 @@ use Rattle.split_plan.specs.UpdatedLevel.{part_below, part_from}
 
 -- ---- the commands of a range
 
--- what goes to no page is on none of its keys; a scan is on none anyway
+-- a command that does not go to a page is on none of its keys; a scan is on none anyway
 module _ {A : Type 0} (low : List ℕ) (end : Option (List ℕ)) where
   takes_all : TakesAll {A = A} (is_within low end) (goes_to low end)
   takes_all (Get k) h = off_by_key {A = A} (is_within low end) (Get k) k refl h
@@ -36,7 +36,7 @@ module _ {A : Type 0} (low : List ℕ) (end : Option (List ℕ)) where
   takes_all (Scan lo hi limit) h = λ q own. refl
   takes_all (Wipe lo hi) h = λ q own. not_met low end lo hi q h own
 
-  -- what gives a key a value goes to the page whose range has the key
+  -- a command that gives a key a value goes to the page whose range has the key
   gives_no_other : GivesNoOther {A = A} (is_within low end) (goes_to low end)
   gives_no_other (Put k v) h = within_by_key {A = A} (is_within low end) (Put k v) k refl h
   gives_no_other (Add k v) h = within_by_key {A = A} (is_within low end) (Add k v) k refl h
@@ -47,15 +47,15 @@ module _ {A : Type 0} (low : List ℕ) (end : Option (List ℕ)) where
   own_by true m es cs k h r e a n = net_run-apart (is_within low end) (goes_to low end) m es cs k takes_all r e a h
   own_by false m es cs k h r e a n = sym (net_run-no_other_there (is_within low end) (goes_to low end) es cs k gives_no_other n e h)
 
-  -- what lies of the whole net run within the range is the net run of the range's commands on entries that agree there, and are all there
+  -- the part of the whole net run within the range is the net run of the range's commands on entries that agree there, and have no key outside
   pub part_is_own : (m es : Pairs) (cs : List (Command A)) (part : Changes) → IsRising m → IsRising es → AgreeOn (is_within low end) m es → HasNoOther (is_within low end) es → IsRising part
       → ((k : List ℕ) → value_at k part ≡ cond (is_within low end k) (value_at k (net_run m cs)) None) → part ≡ net_run es (filter (goes_to low end) cs)
   part_is_own m es cs part r e a n p says =
       same_map part (net_run es (filter (goes_to low end) cs)) p (rising-net_run es (filter (goes_to low end) cs)) (λ k. says k ∙ own_by (is_within low end k) m es cs k refl r e a n)
 
--- ---- what is left of the whole net run for the pages from one on
+-- ---- the rest of the whole net run for the pages from one on
 
--- from a page on: of a run, what lies from its low key on; and a map has there what these pages have
+-- from a page on: the part of a run from its low key on; and a map has there the entries of these pages
 pub record IsLeft (m : Pairs) (run : Changes) (p : Placed (List ℕ)) (ps : List (Placed (List ℕ))) (left : Changes) : Type 0 where
   pub rising : IsRising left
   pub says : (k : List ℕ) → value_at k left ≡ cond (is_below k p.page.low) None (value_at k run)
@@ -95,18 +95,18 @@ holds_own p ps t = λ q other.
     ∙ ap (λ (b : Bool). cond b (value_at q (joined (p ∷ ps))) None) other
 
 module _ {A : Type 0} (m : Pairs) (cs : List (Command A)) (rising : IsRising m) where
-  -- on the range of the page, the map has what the page has
+  -- on the range of the page, the map has the page's entries
   agrees : (p : Placed (List ℕ)) (ps : List (Placed (List ℕ))) (left : Changes) → Tiled (p ∷ ps) None → IsLeft m (net_run m cs) p ps left → AgreeOn (is_within p.page.low (next_low ps None)) m (entries p)
   agrees p ps left t l k h =
       l.has k (low_by (is_below k p.page.low) (is_before (next_low ps None) k) h) ∙ sym (value_at-joined [] ps p None k t h)
 
-  -- the last page gets all that is left
+  -- the last page gets the rest
   pub last_part : (p : Placed (List ℕ)) (left : Changes) → Tiled (p ∷ []) None → IsLeft m (net_run m cs) p [] left → left ≡ net_run (entries p) (filter (goes_to p.page.low None) cs)
   last_part p left t l =
       part_is_own p.page.low None m (entries p) cs left rising (rising-tile None p t.0) (agrees p [] left t l) (holds_own p [] t) l.rising
       (λ k. l.says k ∙ last_part_by (is_below k p.page.low) (value_at k (net_run m cs)))
 
-  -- and any other page what is below the next page's low key
+  -- and any other page gets the part below the next page's low key
   pub first_part : (p q : Placed (List ℕ)) (qs : List (Placed (List ℕ))) (left : Changes) → Tiled (p ∷ q ∷ qs) None → IsLeft m (net_run m cs) p (q ∷ qs) left
       → part_below q.page.low left ≡ net_run (entries p) (filter (goes_to p.page.low (Some q.page.low)) cs)
   first_part p q qs left t l =
@@ -116,7 +116,7 @@ module _ {A : Type 0} (m : Pairs) (cs : List (Command A)) (rising : IsRising m) 
       ∙ ap (λ (o : Option (Option (List ℕ))). cond (is_below k q.page.low) o None) (l.says k)
       ∙ first_part_by (is_below k p.page.low) (is_below k q.page.low) (value_at k (net_run m cs)))
 
--- what is left after the first page is so from the next one on
+-- the rest after the first page is the rest for the pages from the next one on
 pub later_part : (m : Pairs) (run : Changes) (p q : Placed (List ℕ)) (qs : List (Placed (List ℕ))) (left : Changes) → Tiled (p ∷ q ∷ qs) None → IsLeft m run p (q ∷ qs) left → IsLeft m run q qs (part_from q.page.low left)
 later_part m run p q qs left t l = record {
   rising = rising-filter (λ c. not (is_below c.0 q.page.low)) left l.rising;
@@ -135,7 +135,7 @@ from_start_by : {X : Type 0} (b : Bool) (o : Option X) → b ≡ false → o ≡
 from_start_by true o h = absurd (cc)
 from_start_by false o h = refl
 
--- for the first page, whose low key is the empty one, all of it is left
+-- for the first page, whose low key is the empty one, the rest is the whole run
 pub all_left : {A : Type 0} (cs : List (Command A)) (p : Placed (List ℕ)) (ps : List (Placed (List ℕ))) → p.page.low ≡ [] → IsLeft (joined (p ∷ ps)) (net_run (joined (p ∷ ps)) cs) p ps (net_run (joined (p ∷ ps)) cs)
 all_left cs p ps e = record {
   rising = rising-net_run (joined (p ∷ ps)) cs;

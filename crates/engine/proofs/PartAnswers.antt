@@ -1,5 +1,5 @@
--- What the pages of a level answer to a batch, each to its own commands on its own part of the map, and what comes of it at
--- each place of the batch.
+-- The answers of the pages of a level to a batch, each to its own commands on its own part of the map, and the replies that they make at each place
+-- of the batch.
 use Rattle.std.specs.Prelude.{◌≡◌, ℕ, zero, suc, ◌+◌, ◌<◌, ◌≤◌, ◌==◌, Bool, true, false, cond, if◌then◌else◌, List, [], ◌∷◌, ◌++◌, flat_map, take, drop, length, min, slice_get, is_some, Option, Some, None}
 use Rattle.std.proofs.Common.{refl, sym, ap, ◌∙◌, replicate, arith, eq-eqb, Ordering, Less, Equal, Greater}
 use Rattle.std.specs.Ordering.{is_eq, match_ordering}
@@ -38,8 +38,7 @@ use Rattle.engine.proofs.CommandsWithin.{commands_within}
 abbrev Pairs : Type 0
 Pairs = List (List ℕ × List ℕ)
 
--- a page's answers: to each of the commands that goes to it, what the map's part in its range answers; the first command's
--- place is this one
+-- a page's answers: to each of the commands that go to it, the answer of the map's part in its range; the first command has this place
 abbrev pub answers_from : {A : Type 0} → ℕ → List ℕ → Option (List ℕ) → Pairs → List (Command A) → List (Piece A)
 answers_from n low end m [] = []
 answers_from n low end m (c ∷ cs) =
@@ -81,7 +80,7 @@ most_left (e ∷ es) k = most_left_by (is_eq (order k e.0)) e es (without es k) 
 -- ---- lists
 
 module _ {X : Type 0} where
-  -- the first of what is left after a number of items stands at that place
+  -- the first element after a number of elements is the element at that place
   stands_first : (n : ℕ) (xs : List X) (y : X) (ys : List X) → drop n xs ≡ y ∷ ys → (slice_get xs n ≡ Some y) × (drop (suc n) xs ≡ ys)
   stands_first zero [] y ys h = absurd (cc)
   stands_first (suc n) [] y ys h = absurd (cc)
@@ -109,13 +108,13 @@ module _ {A : Type 0} where
         page_by (goes_to low end c) n m c (places_from (suc n) (goes_to low end) cs) (filter (goes_to low end) cs) (answers_from (suc n) low end (map_after m c) cs) r refl
         (page_from (suc n) (map_after m c) cs (rising-map_after m c r))
 
-    -- what a page answers that has, of a map, the part in its range
+    -- the answers of a page that has the part of a map in its range
     pub page_answers : (m : Pairs) (cs : List (Command A)) → IsRising m → (let ps = places_within low end cs in pieces_of ps (replies_to (in_range low end m) (commands_at cs ps)) ≡ answers_from 0 low end m cs)
     page_answers m cs r =
         let ps = places_within low end cs in
         ap (λ (ds : List (Command A)). pieces_of ps (replies_to (in_range low end m) ds)) (commands_within low end cs) ∙ page_from 0 m cs r
 
-  -- ---- which places are answered, and how
+  -- ---- the places that are answered, and the kinds of answers
 
   module _ (low : List ℕ) (end : Option (List ℕ)) where
     all_if : (P : Piece A → Type 0) (b : Bool) (p : Piece A) (ps : List (Piece A)) → P p → AllByRecursion P ps → AllByRecursion P (cond b (p ∷ ps) ps)
@@ -152,7 +151,7 @@ module _ {A : Type 0} where
     count-reply_to m (Scan lo hi limit) = refl
     count-reply_to m (Wipe lo hi) = refl
 
-    -- what each reply says of itself, each answer says of the command at its place
+    -- a property of each reply to its own command holds for each answer and the command at its place
     pub kinds-answers : (test : Reply A → Bool) (kind : Command A → Bool) → ((m : Pairs) (c : Command A) → test (reply_to m c) ≡ kind c) → (all : List (Command A)) (n : ℕ) (m : Pairs) (left : List (Command A)) → drop n all ≡ left
         → AllByRecursion (λ p. test p.reply ≡ is_some_that kind (slice_get all p.place)) (answers_from n low end m left)
     kinds-answers test kind is all n m [] h = tt
@@ -160,7 +159,7 @@ module _ {A : Type 0} where
         let s = stands_first n all c left h in
         all_if (λ p. test p.reply ≡ is_some_that kind (slice_get all p.place)) (goes_to low end c) _ _ (is (in_range low end m) c ∙ sym (ap (is_some_that kind) s.0)) (kinds-answers test kind is all (suc n) (map_after m c) left s.1)
 
-    -- ---- what a page answers at a place
+    -- ---- the answer of a page at a place
 
     -- to a command, of the map before it
     abbrev pub own_reply : Pairs → Command A → List (Reply A)
@@ -196,11 +195,11 @@ module _ {A : Type 0} where
 
   -- ---- all pages
 
-  -- what the pages of these places answer, one after the other
+  -- the answers of the pages of these places, in sequence
   abbrev pub all_answers_from : Pairs → List (Command A) → List Place → List (Piece A)
   all_answers_from m cs ats = flat_map (λ at. answers_from 0 at.low at.end m cs) ats
 
-  -- what they answer to the command at a place of the batch
+  -- their answers to the command at a place of the batch
   abbrev all_at : Pairs → List (Command A) → ℕ → List Place → List (Reply A)
   all_at m cs i ats = flat_map (λ at. own_at at.low at.end m cs i) ats
 
@@ -253,7 +252,7 @@ module _ {A : Type 0} where
     one_reply level first tiled =
         replicated (ranges level) ∙ ap (λ (n : ℕ). replicate n (reply_to m c)) (length-filter (is_place_for (key_of c)) (ranges level) ∙ one_page level None [] (key_of c) tiled first (within_all (key_of c)))
 
-  -- ---- what a level answers
+  -- ---- the answers of a level
 
   -- a command adds one pair at most
   one_more_at_most : (m : Pairs) (c : Command A) → length (map_after m c) ≤ length m + 1
@@ -271,7 +270,7 @@ module _ {A : Type 0} where
       omega (arith, one, sum)
   count_by false m c lo hi e = refl
 
-  -- the counts that pages answer to a wipe
+  -- the counts in the answers of pages to a wipe
   counts_joined : (m : Pairs) (c : Command A) (lo : List ℕ) (hi : Option (List ℕ)) (ats : List Place) → c ≡ Wipe lo hi
       → sum_by count_of (all_own m c ats) ≡ sum_by (λ at. if goes_to at.low at.end c then length (in_range lo hi (in_range at.low at.end m)) else 0) ats
   counts_joined m c lo hi [] e = refl
@@ -297,7 +296,7 @@ module _ {A : Type 0} where
     plain_joined : (m : Pairs) (c : Command A) → IsRising m → is_ranged c ≡ false → joined_replies c (all_own m c (ranges level)) ≡ Some (reply_to m c)
     plain_joined m c rising plain = joined_replies-lone c (all_own m c (ranges level)) plain ∙ ap (λ (rs : List (Reply A)). lone rs) (one_reply m c rising plain level first tiled)
 
-    -- what the pages answer to a command makes the reply of the whole map, where the number of pairs is one that a reply can have
+    -- the answers of the pages to a command make the reply of the whole map, if the number of pairs fits in a reply
     joined_own : (m : Pairs) (c : Command A) → IsRising m → length m ≤ most_counted → joined_replies c (all_own m c (ranges level)) ≡ Some (reply_to m c)
     joined_own m (Get k) r few = plain_joined m (Get k) r refl
     joined_own m (Put k v) r few = plain_joined m (Put k v) r refl
@@ -325,7 +324,7 @@ module _ {A : Type 0} where
       abbrev answers : List (Piece A)
       answers = all_answers_from m cs (ranges level)
 
-      -- the pages of a level that tiles all keys answer rightly
+      -- the pages of a level that tiles all keys give correct answers
       pub answers_are_right : AreAnswers cs answers
       answers_are_right = record {
         within = All-from_recursion (IsPlaceOf cs) answers (within-all m cs (ranges level));
@@ -334,6 +333,6 @@ module _ {A : Type 0} where
         once = λ i h plain. sym (length-map (pieces_at answers i) (λ p. p.reply)) ∙ ap (λ (rs : List (Reply A)). length rs) (all_answers_at m cs i (ranges level)) ∙ one_at m cs i rising h plain;
       }
 
-      -- and the replies that their answers make are those of the whole map, where no number of pairs is too great for a reply
+      -- and the replies that their answers make are those of the whole map, if every number of pairs fits in a reply
       pub answers_make_the_replies : length m + length cs ≤ most_counted → (rs : List (Reply A)) → ((i : ℕ) → slice_get rs i ≡ reply_at cs answers i) → rs ≡ replies_to m cs
       answers_make_the_replies few rs made = same_at_each rs (replies_to m cs) (λ i. made i ∙ ap (joined_replies_at (slice_get cs i)) (all_answers_at m cs i (ranges level)) ∙ joined_all m cs i rising few)

@@ -1,4 +1,4 @@
--- Some of the leaves that commands go to: what holds of all holds of these.
+-- Some of the leaves that commands go to: what holds for all holds for these.
 use Rattle.std.specs.Prelude.{◌≡◌, ◌≢◌, ℕ, Bool, true, false, List, [], ◌∷◌, map}
 use Rattle.std.proofs.Common.{refl, ap, ◌∙◌}
 use Rattle.std.specs.List.{AllByRecursion, filter}
@@ -41,7 +41,7 @@ module _ (w : Route → Bool) where
     same_by r rs true h first rest = rw h (ap (λ (x : X). x ∷ map f (filter w rs)) first ∙ ap (λ (xs : List X). g r ∷ xs) rest)
     same_by r rs false h first rest = rw h rest
 
-    -- two functions that make the same of all make the same of these
+    -- two functions that are equal on all routes are equal on these
     pub same_passing : (rs : List Route) → map f rs ≡ map g rs → map f (filter w rs) ≡ map g (filter w rs)
     same_passing [] e = refl
     same_passing (r ∷ rs) e =

@@ -1,4 +1,4 @@
--- What a flush would add to the log.
+-- The bytes that a flush would add to the log.
 use Rattle.std.specs.Prelude.{◌≡◌, ◌≢◌, ◌⊎◌, ◌↔◌, ◌+◌, ◌≤◌, ℕ, Bool, true, false, IsTrue, List, [], length, None, Err}
 use Rattle.std.specs.List.{sum_by}
 use Rattle.std.proofs.Common.{refl, sym, ap, ◌∙◌, inl, inr, arith}
@@ -19,11 +19,11 @@ use Rattle.engine.specs.Calls.{IsWriting}
 use Rattle.engine.specs.Pending.{FlushAdds, IsFlushRefused}
 use Rattle.engine.proofs.FlushDone.{IsDue, nothing-flushed, refused-by-right, writing-done}
 
--- an empty text adds nothing
+-- without frames nothing is added
 pub nothing-added : (s : Settings) (st : Store) → flush_frames st.version st.tree ≡ [] → FlushAdds s st 0
 nothing-added s st none file = (st, file, nothing-flushed s st file none, omega arith)
 
--- where not all is written, something is to be
+-- if not everything is written, there is something to write
 pub some-left : (is_all : Bool) (text : List Frame) → (IsTrue is_all ↔ (text ≡ [])) → is_all ≡ false → text ≢ []
 some-left true text written rest = absurd (cc)
 some-left false text written rest = λ none. (let yes = written.1 none in cc)
@@ -32,18 +32,18 @@ some-left false text written rest = λ none. (let yes = written.1 none in cc)
 between : (from bytes to tail : ℕ) → from + bytes ≤ to → tail ≡ to → from ≤ tail
 between from bytes to tail rises same = omega arith
 
--- ---- one that has something to write
+-- ---- a flush that has something to write
 
 module _ (s : Settings) (st : Store) (due : flush_frames st.version st.tree ≢ []) where
   abbrev is_due : IsDue (texts.Flush st.version) st
   is_due = record { own = refl; due = due; some = due }
 
-  -- it is refused by its right
+  -- it fails by definition
   pub flush-refused : (fault : Fault) → (fault ≡ NoMemory) ⊎ (next_tail s (slot_of st) (flush_frames st.version st.tree) ≡ Err fault) → (fault ≡ NoMemory) ⊎ IsFlushRefused s st fault
   flush-refused fault (inl memory) = inl memory
   flush-refused fault (inr h) = inr (λ file. refused-by-right (texts.Flush st.version) s st is_due fault file h)
 
-  -- as it is planned, its tail is not below that of the store, and it adds what lies between the two
+  -- since it is planned, its tail is not below that of the store, and it adds the bytes between the two
   module _ (m : CommitPlan) (p : IsWriting (texts.Flush st.version) s st m) where
     pub tail-not-below : first_bad_field s ≡ None → st.tail ≤ m.slot.tail
     tail-not-below good =

@@ -32,13 +32,13 @@ one_taken xs i x h is =
 pub one_after : (xs : List code_step.Step) (i : ℕ) (x : code_step.Step) → i < length xs → x ≡ get_or xs i x → drop i xs ≡ x ∷ drop (i + 1) xs
 one_after xs i x h is = drop_more xs i x h ∙ ap (λ (y : code_step.Step). y ∷ drop (i + 1) xs) (sym is)
 
--- where none are taken of some, none are asked for
+-- if the first i of some steps are none, i is 0
 pub none_taken : (xs : List code_step.Step) (i : ℕ) → i < length xs → map step_of (take i xs) ≡ [] → i ≡ 0
 none_taken xs zero h e = refl
 none_taken [] (suc i) h e = absurd (omega (arith, h))
 none_taken (x ∷ xs) (suc i) h e = absurd (cc)
 
--- where the first of some isn't done, and none is left, there are none
+-- if no step was taken and none remains, there are none
 pub none_left : (xs : List code_step.Step) (i : ℕ) → i ≡ 0 → length xs ≤ i → xs ≡ []
 none_left [] i first last = refl
 none_left (x ∷ xs) i first last = absurd (omega (arith, first, last))
@@ -188,14 +188,14 @@ module _ {D : Type 0} (view : D → View) (failures : D → ℕ) (lawful : (disk
     still_honest : IsTrue (view old.disk).is_honest → IsTrue (view cur.disk).is_honest
     still_honest honest = subst IsTrue (sym turn.kept.honest) honest
 
-    -- where it was refused, what was answered stays so
+    -- if it was refused, the answers so far stay
     pub still_said : next.store ≡ cur.store → IsPlayed (view old.disk).is_honest s old.store first xs said next.store
     still_said store = subst (λ (y : Store). IsPlayed (view old.disk).is_honest s old.store first xs said y) (sym store) turn.played
 
     pub still_exact : next.store ≡ cur.store → IsTrue (view old.disk).is_honest → IsPlayedOn s old.store first xs said next.store
     still_exact store honest = subst (λ (y : Store). IsPlayedOn s old.store first xs said y) (sym store) (turn.exact honest)
 
-    -- and all the rest, unless a call of the disk failed in it
+    -- and everything else, unless a call of the disk failed in it
     pub stays : (next.settings ≡ cur.settings) × Kept (view cur.disk) (view next.disk)
         → next.store ≡ cur.store
         → (next.has_failed ≡ cur.has_failed) × (failures next.disk ≡ failures cur.disk)
@@ -236,7 +236,7 @@ module _ {D : Type 0} (view : D → View) (failures : D → ℕ) (lawful : (disk
           subst (λ (z : Store). IsStepFault s z file (failures old.disk) count (step_of y) fault) (sym store) there,
         )
 
-    -- what is left where it was begun, whether it was refused or not
+    -- the result from its start, whether it was refused or not
     module _ (x : Step Global) where
       abbrev Left : Settings → List ℕ → Type 0
       Left z c = IsLeftInStep z cur.store (view cur.disk).seen x c

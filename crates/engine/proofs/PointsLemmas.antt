@@ -85,7 +85,7 @@ still_has m k (j ∷ js) r a h =
     (ap (λ (o : Option (List ℕ)). is_some o) (value_at-without m k j r ∙ ap (λ (x : Ordering). cond (is_eq x) None (value_at j m)) a.0) ∙ h.0, still_has m k js r a.1 h.1)
 
 module _ (A : Type 0) where
-  -- ---- what points touch
+  -- ---- the keys that points touch
 
   touched-dels : (q : List ℕ) (m : Pairs) (ks : List (List ℕ)) → IsRising m → AreRisingKeys ks → AllByRecursion (Has m) ks → is_touched q m (dels_of {A = A} ks) ≡ has_key q ks
   unfolding IsStrictlySortedBy
@@ -109,7 +109,7 @@ module _ {A : Type 0} where
   touched-points_by q m (Scan lo hi limit) r = refl
   touched-points_by q m (Wipe lo hi) r = touched-dels A q m (keys_of (in_range lo hi m)) r (rising-filtered (λ e. is_within lo hi e.0) m r) (range_has lo hi m) ∙ has_key-in_range q lo hi m
 
-  -- ---- what they leave
+  -- ---- the map after them
 
   after-points_by : (m : Pairs) (c : Command A) → IsRising m → map_after_all m (points_by m c) ≡ map_after m c
   after-points_by m (Get k) r = refl

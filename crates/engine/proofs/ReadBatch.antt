@@ -1,4 +1,4 @@
--- A batch that only looks: no leaf may be changed by it, and what its leaves answer where they stay is what they would as jobs.
+-- A batch that only reads: no leaf may be changed by it, and the answers of leaves in the tree are those of jobs for them.
 use Rattle.std.specs.Prelude.{◌≡◌, ℕ, zero, suc, ◌&&◌, Bool, true, false, map, slice_get, List, [], ◌∷◌}
 use Rattle.std.proofs.Common.{refl, sym, ap, ◌∙◌}
 use Rattle.std.proofs.lemmas.List.Folds.{list_all-append}
@@ -44,14 +44,14 @@ pub none_written : (cs : List (Command Global)) → list_all is_read_only cs ≡
 none_written cs h [] = refl
 none_written cs h (r ∷ rs) = let e : is_only_read cs r ≡ true = all_look cs r.places h in rw e (none_written cs h rs)
 
--- so none is taken
+-- so none is checked out
 pub none_taken : (cs : List (Command Global)) → list_all is_read_only cs ≡ true → (m : TreeInMemory) (rs : List Route) → m ≡ tree_taken m (route_pids (written_routes cs rs))
 none_taken cs h m rs = ap (λ (ws : List Route). tree_taken m (route_pids ws)) (sym (none_written cs h rs))
 
 pub none_made : (cs : List (Command Global)) → list_all is_read_only cs ≡ true → (s : Settings) (m : TreeInMemory) (rs : List Route) → ◌≡◌ {A = List LeafMade} [] (leaves_made s cs m.table (written_routes cs rs))
 none_made cs h s m rs = ap (λ (ws : List Route). leaves_made s cs m.table ws) (sym (none_written cs h rs))
 
--- leaves at home, and places of the batch, may be read
+-- leaves in the table, and places of the batch, may be read
 pub all_readable : (m : TreeInMemory) (cs : List (Command Global)) (rs : List Route) → AllByRecursion (λ pid. IsLeafAt (page_of m.table pid)) (route_pids rs) → AllByRecursion (λ r. ArePlacesOf cs r.places) rs → AllByRecursion (IsRouteToRead m cs) rs
 all_readable m cs [] a b = tt
 all_readable m cs (r ∷ rs) a b = (record { home = a.0; places = b.0 }, all_readable m cs rs a.1 b.1)
@@ -62,16 +62,16 @@ read_as_jobs s cs m (r ∷ rs) a =
     ap (λ (ps : List (Piece Global)). ps ∷ map (route_answers m cs) rs) (answers_by cs (page_of m.table r.pid) r a.0)
     ∙ ap (λ (xs : List (List (Piece Global))). (leaf_made s cs (leaf_held m.table r)).pieces ∷ xs) (read_as_jobs s cs m rs a.1)
 
--- what they answer
+-- their answers
 pub answers_read : (s : Settings) (cs : List (Command Global)) (m : TreeInMemory) (rs : List Route) (ds : List ReadLeaf) → AllByRecursion (λ pid. IsLeafAt (page_of m.table pid)) (route_pids rs) → read_answers ds ≡ map (route_answers m cs) rs
     → flat (read_answers ds) ≡ answers (leaves_made s cs m.table rs)
 answers_read s cs m rs ds a e = ap (λ (xs : List (List (Piece Global))). flat xs) (e ∙ read_as_jobs s cs m rs a)
 
--- the next leaf's answers are the first of all that are left
+-- the next leaf's answers are the first of the remaining ones
 pub read_next : (d : ReadLeaf) (ds all : List ReadLeaf) (ps : List (Piece Global)) → all ≡ d ∷ ds → ps ≡ d.pieces → read_answers all ≡ ps ∷ read_answers ds
 read_next d ds all ps e p = ap (λ (xs : List ReadLeaf). read_answers xs) e ∙ ap (λ (qs : List (Piece Global)). qs ∷ read_answers ds) (sym p)
 
--- once no leaf is left, each reply stands at its place
+-- when no leaf remains, each reply is at its place
 pub all_read : (cs : List (Command Global)) (left : List ReadLeaf) (all : List (Piece Global)) (rs : List (Reply Global)) → left ≡ [] → AreAnswers cs all → with_pieces cs (flat (read_answers left)) rs ≡ with_pieces cs all (map blank_of cs)
     → (place : ℕ) → slice_get rs place ≡ reply_at cs all place
 all_read cs left all rs none a h place =

@@ -1,4 +1,4 @@
--- A tree whose touched leaves were taken out of it and worked is ready to climb; put back, they are the tree as it was.
+-- A tree whose touched leaves were checked out and updated is ready to climb; after they are put back, the tree is the same as before.
 use Rattle.std.specs.Prelude.{◌≡◌, ◌≢◌, ℕ, Bool, true, false, List, [], ◌∷◌, map, flat_map, Option, Some, None, IsSome, is_some}
 use Rattle.std.proofs.Common.{refl, sym, ap, ◌∙◌, subst}
 use Rattle.std.specs.declared.alloc.Global.{Global}
@@ -35,13 +35,13 @@ use Rattle.engine.proofs.OwnRuns.{all_left}
 use Rattle.engine.proofs.PartedLemmas.{all_passing, distinct_passing}
 use Rattle.engine.proofs.SeenLeaves.{ComeToNone, all_routed, distinct_routes, seen_from}
 
--- ---- names of what the statements speak of
+-- ---- names for the subjects of the statements
 
--- of the tree's leaves that the commands go to those that pass
+-- the leaves of the tree that commands go to and that pass
 abbrev pub routes_here : TreeInMemory → List (Command Global) → (Route → Bool) → List Route
 routes_here m cs w = filter w (routes (levels_of (tree_of m)).level cs)
 
--- what is made of these leaves
+-- the results for these leaves
 abbrev pub made_here : Settings → TreeInMemory → List (Command Global) → (Route → Bool) → List LeafMade
 made_here s m cs w = leaves_made s cs m.table (routes_here m cs w)
 
@@ -49,7 +49,7 @@ made_here s m cs w = leaves_made s cs m.table (routes_here m cs w)
 abbrev pub taken_here : TreeInMemory → List (Command Global) → (Route → Bool) → TreeInMemory
 taken_here m cs w = record m { table = all_taken m.table (route_pids (routes_here m cs w)) }
 
--- what a table has under the pids of these routes
+-- the pages of a table under the pids of these routes
 abbrev pub under_routes : Mapping PageOfKind → List Route → List (ℕ × PageOfKind)
 under_routes t rs = map (λ r. (r.pid, page_or_none (page_of t r.pid))) rs
 
@@ -59,7 +59,7 @@ leaves_here m cs w = under_routes m.table (routes_here m cs w)
 
 -- ---- the leaves of a level that tiles all keys
 
--- what is seen of them, and that the others are at home
+-- the views of them, and the fact that the others are in the table
 seen_level : (s : Settings) (cs : List (Command Global)) (t : Mapping PageOfKind) (w : Route → Bool) → ComeToNone cs w → (ps : List (Placed (List ℕ))) → next_low ps None ≡ Some [] → Tiled ps None → AreHome Leaf t ps → Distinct (pids ps)
     → AreSeen Leaf (all_taken t (route_pids (filter w (routes ps cs)))) (map (λ d. page_seen Leaf d.updated) (leaves_made s cs t (filter w (routes ps cs)))) (updated_leaves s (net_run (joined ps) cs) ps)
 seen_level s cs t w quiet [] e tiled h d = absurd (cc)
@@ -74,7 +74,7 @@ home_by None x h = absurd (cc)
 home_by (Some p) x h = ap (λ (y : Option PageOfKind). Some y) h
 
 module _ (t : Mapping PageOfKind) (home : AllByRecursion (λ e. IsSome e.1) t.places) where
-  -- where all pages are at home, the pages that are listed are
+  -- if all pages are in the table, the listed pages are
   listed_home : {V : Type 0} (of : Page V → PageOfKind) (ps : List (Placed V)) → AllByRecursion (λ p. page_at (home_pages t.places) p.pid ≡ Some (of p.page)) ps → AreHome of t ps
   listed_home of [] a = tt
   listed_home of (p ∷ ps) a = (home_by (place_of t p.pid) (of p.page) (page-home t.places p.pid home ∙ a.0), listed_home of ps a.1)
@@ -90,7 +90,7 @@ module _ (t : Mapping PageOfKind) (cs : List (Command Global)) (w : Route → Bo
   abbrev taken : Mapping PageOfKind
   taken = all_taken t (route_pids (filter w (routes ps cs)))
 
-  -- pages of other pids stay
+  -- pages under other pids are unchanged
   others_stay : (n : ℕ) → is_among n (pids ps) ≡ false → place_of taken n ≡ place_of t n
   others_stay n h =
       let apart = all_passing w (λ k. k ≢ n) (routes ps cs) (all_routed (λ k. k ≢ n) ps cs (apart_from n (pids ps) h)) in
@@ -102,7 +102,7 @@ module _ (t : Mapping PageOfKind) (cs : List (Command Global)) (w : Route → Bo
 
 -- ---- the leaves are put back
 
--- a page is at home under the pid
+-- a page is in the table under the pid
 abbrev IsThere : Mapping PageOfKind → ℕ → Type 0
 IsThere t n = place_of t n ≡ Some (Some (page_or_none (page_of t n)))
 
@@ -153,7 +153,7 @@ module _ (s : Settings) (m : TreeInMemory) (cs : List (Command Global)) (w : Rou
       (all_weaker (IsThere m.table) (λ n. is_some (place_of m.table n) ≡ true) (λ n h. ap (λ (o : Option (Option PageOfKind)). is_some o) h) (route_pids (routes_here m cs w)) there_here)
       ∙ sym (home_keys m.table.places sound.home)
 
-  -- the tree is ready to climb, where the commands of those that don't pass come to no run
+  -- the tree is ready to climb, if the commands of those that do not pass have an empty net run
   pub ready_here : ComeToNone cs w → IsReady s (tree_of m) cs (taken_here m cs w) (map (λ d. page_seen Leaf d.updated) (made_here s m cs w))
   ready_here quiet = record {
     proper = sound.sound.proper;
@@ -166,10 +166,10 @@ module _ (s : Settings) (m : TreeInMemory) (cs : List (Command Global)) (w : Rou
     height = refl;
   }
 
-  -- the places of the leaves are away
+  -- the places of the leaves are empty
   pub taken_away : AreAway (taken_here m cs w).table (route_pids (routes_here m cs w))
   taken_away = (away-all_taken m.table (route_pids (routes_here m cs w)) distinct_here, distinct_here)
 
-  -- put back, they are the tree as it was
+  -- after they are put back, the tree is the same as before
   pub put_back_here : record (taken_here m cs w) { table = all_put (taken_here m cs w).table (leaves_here m cs w) } ≡ m
   put_back_here = ap (λ (t : Mapping PageOfKind). record m { table = t }) (back_under_routes m.table (routes_here m cs w) rising_here distinct_here there_here)

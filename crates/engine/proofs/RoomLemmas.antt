@@ -1,4 +1,4 @@
--- How full a log is: bytes of frames, and numbers that are compared.
+-- The space in a log: bytes of frames, and comparisons of numbers.
 use Rattle.std.specs.Prelude.{◌≡◌, ℕ, ◌+◌, ◌-◌, ◌*◌, ◌/◌, ◌^◌, ◌<◌, ◌≤◌, max, min, nat_lt, nat_le, sum_by, true, None, List, [], ◌∷◌, ◌++◌, length, map, Option, Some, IfSome}
 use Rattle.std.proofs.Common.{refl, sym, ap, subst, ◌∙◌, ⊎_elim, arith, div-mul-le_self, div-lt_iff_lt-mul, eq-zero-or-pos, mul-le-mul}
 use Rattle.std.proofs.lemmas.Bool.{cases_lt, lt-ltb, le-ltb, lt-leb, le-leb}
@@ -47,7 +47,7 @@ lengths-map (f ∷ fs) =
     ∙ ap (λ (n : ℕ). length (bytes_of f) + n) (lengths-map fs)
     ∙ sym (sum_by-cons (λ (f : Frame). length (bytes_of f)) f fs)
 
--- ---- numbers that are compared
+-- ---- comparisons of numbers
 
 pub same-test : (a b c d : ℕ) → (a < b → c < d) → (b ≤ a → d ≤ c) → nat_lt a b ≡ nat_lt c d
 same-test a b c d up down = ⊎_elim (λ less. lt-ltb a b less ∙ sym (lt-ltb c d (up less))) (λ more. le-ltb a b more ∙ sym (le-ltb c d (down more))) (cases_lt a b)
@@ -63,7 +63,7 @@ small-room s n good few =
     let product : n * (s.seg_size - 16) ≤ 65536 * 1048576 = mul-le-mul few short in
     omega (arith, product)
 
--- whether what lives and what a flush writes are too much
+-- whether the live bytes and the bytes of a flush are too many
 pub overfull-by : (s : Settings) (st : Store) (images : List (List (List ℕ))) (live most total : ℕ) → AreOfText images (flush_frames st.version st.tree) → most ≡ most_live s → most < 2 ^ 64 - 1
     → total ≡ min (live + lengths (frames_in images)) (2 ^ 64 - 1) → nat_lt most total ≡ is_overfull s st live
 overfull-by s st images live most total of is small sum =

@@ -1,4 +1,4 @@
--- A batch whose routes are known: what its leaves answer, that the tree is ready to climb, and the way back.
+-- A batch whose routes are known: the answers of its leaves, the tree, which is ready to climb, and how the batch is undone.
 use Rattle.std.specs.Prelude.{◌≡◌, ◌⊎◌, ℕ, ◌+◌, ◌<◌, ◌≤◌, Bool, true, false, not, length, List, [], ◌∷◌, map, slice_get, None, Result, Ok, Err, OnErr}
 use Rattle.std.proofs.Common.{refl, sym, ap, ◌∙◌, subst}
 use Rattle.std.specs.List.{AllByRecursion, filter}
@@ -48,7 +48,7 @@ use Rattle.engine.proofs.SeenLeaves.{ComeToNone}
 abbrev pub made_all : List LeafUpdate → List LeafMade
 made_all ds = map (λ d. d.made) ds
 
--- what is seen of leaves is of what was made of them
+-- the views of leaves are those of the results for them
 seen_by_made : (ds : List LeafUpdate) → seen_leaves ds ≡ map (λ x. page_seen Leaf x.updated) (made_all ds)
 seen_by_made [] = refl
 seen_by_made (d ∷ ds) = ap (λ (xs : List SeenPage). page_seen Leaf d.made.updated ∷ xs) (seen_by_made ds)
@@ -74,7 +74,7 @@ module _ (m : TreeInMemory) where
   pages_of_routes [] = refl
   pages_of_routes (r ∷ rs) = ap (λ (es : List (ℕ × PageOfKind)). (r.pid, page_or_none (page_of m.table r.pid)) ∷ es) (pages_of_routes rs)
 
-  -- which are the pages under these
+  -- these are the pages under them
   abbrev pages_under : List ℕ → List (ℕ × PageOfKind)
   pages_under ns = map {B = ℕ × PageOfKind} (λ n. (n, page_or_none (page_of m.table n))) ns
 
@@ -90,7 +90,7 @@ without_pids m ns = record m { table = all_taken m.table ns }
 abbrev without_leaves : TreeInMemory → List Route → TreeInMemory
 without_leaves m rs = without_pids m (route_pids rs)
 
--- what holds anyway holds after an error
+-- what always holds also holds after an error
 pub on_any_error : {T E P : Type 0} (r : Result T E) → P → OnErr r P
 on_any_error (Ok x) p = tt
 on_any_error (Err e) p = p
@@ -106,11 +106,11 @@ is_true false h = absurd (cc)
 -- ---- a batch whose routes are known
 
 module _ (s : Settings) (m : TreeInMemory) (cs : List (Command Global)) (sound : IsSoundInMemory s m) (rs : List Route) (routed : AreRoutesFor (tree_of m) cs rs) where
-  -- the commands, where scans have the ends by which they were routed
+  -- the commands, with the ends of scans by which they were routed
   abbrev ended : List (Command Global)
   ended = with_ends cs routed.0
 
-  -- all routes of these; those here lack some commands that find nothing
+  -- all routes of these; the present ones lack some commands that find nothing
   abbrev here : List Route
   here = routes_here m ended
 
@@ -131,11 +131,11 @@ module _ (s : Settings) (m : TreeInMemory) (cs : List (Command Global)) (sound :
   pids_changed : route_pids (written_routes cs rs) ≡ route_pids (filter changed here)
   pids_changed = same_pids s cs routed.0 m.table (written_routes cs rs) (filter changed here) same_changed
 
-  -- the commands of the others come to no run
+  -- the commands of the others have an empty net run
   quiet : ComeToNone ended changed
   quiet r h n = net_run-ended cs routed.0 r.places n ∙ net_run-looks n (commands_at cs r.places) (is_true (is_only_read cs r) h)
 
-  -- the leaves are at home
+  -- the leaves are in the table
   pub all_routes : AreLeafRoutes m.table cs rs
   all_routes =
       let there : AreLeafRoutes m.table ended here = routes_are_leaves s m ended sound.home sound.sound.proper in
@@ -146,15 +146,15 @@ module _ (s : Settings) (m : TreeInMemory) (cs : List (Command Global)) (sound :
         places = places-ended cs routed.0 rs (all_places s cs routed.0 m.table rs here same);
       }
 
-  -- what is made of all leaves is what is made of them with nearer ends
+  -- the results for all leaves are the same with the closer ends
   all_made : leaves_made s cs m.table rs ≡ leaves_made s ended m.table rs
   all_made = all_ended s cs routed.0 m.table rs here same
 
-  -- and of all commands, but for blank answers
+  -- and the same as for all commands, except for blank answers
   blanks_missing : AreButBlank ended (answers (leaves_made s ended m.table rs)) (answers (leaves_made s ended m.table here))
   blanks_missing = all_but_blank s cs routed.0 m.table rs here same
 
-  -- what was answered is what the leaves answer to the commands with nearer ends, but for blank answers
+  -- the answers are those of the leaves to the commands with closer ends, except for blank answers
   module _ (ps : List (Piece Global)) (reported : ps ≡ answers (leaves_made s cs m.table rs)) where
     pub answered : AreAnswers cs ps
     answered =
@@ -169,7 +169,7 @@ module _ (s : Settings) (m : TreeInMemory) (cs : List (Command Global)) (sound :
         ∙ but_reply ended (answers (leaves_made s ended m.table rs)) (answers (leaves_made s ended m.table here)) blanks_missing place)
         ∙ replies-with_ends (keys_of (names (levels_of (tree_of m)).level)) (contents (tree_of m)) cs routed.0 (rising-joined (levels_of (tree_of m)).level None sound.sound.proper.levels.tiled) routed.1
 
-  -- the leaves that were changed, and then asked for their answers
+  -- the leaves that were changed, from which the answers are then collected
   module _ (ds leaves : List LeafUpdate) (asked : leaves ≡ map without_answers ds) (now : TreeInMemory) (taken : now ≡ without_leaves m (written_routes cs rs)) where
     module _ (made : made_all ds ≡ leaves_made s cs m.table (written_routes cs rs)) where
       seen_here : seen_leaves leaves ≡ map (λ x. page_seen Leaf x.updated) (leaves_made s ended m.table (filter changed here))
@@ -185,7 +185,7 @@ module _ (s : Settings) (m : TreeInMemory) (cs : List (Command Global)) (sound :
       pub some_ready : (t : Tree) × (bs : List (Command Global)) × IsReady s t bs now (seen_leaves leaves)
       some_ready = (tree_of m, ended, is_ready)
 
-      -- what holds of the plan of all for which the tree is ready holds of this plan
+      -- what holds for every plan for which the tree is ready holds for this plan
       pub for_this : (P : Tree → Type 0) → ((t : Tree) (bs : List (Command Global)) → IsReady s t bs now (seen_leaves leaves) → P (planned_tree s t bs)) → P (planned_tree s (tree_of m) cs)
       for_this P f = subst P (planned-ended s (tree_of m) cs routed.0) (f (tree_of m) ended is_ready)
 
@@ -211,14 +211,14 @@ module _ (s : Settings) (m : TreeInMemory) (cs : List (Command Global)) (sound :
 
 -- ---- the tree after a batch
 
--- a later fault, by the planned tree
+-- a fault after the climb, which depends on the planned tree
 abbrev pub IsFaultOf : Tree → Fault → Type 0
 IsFaultOf planned fault = (fault ≡ NoMemory) ⊎ ((fault ≡ Spent) × (64 < planned.height))
 
 abbrev pub as_store : Tree → Store
 as_store t = record { tree = t; head = 0; tail = 0; sequence = 0; version = One }
 
--- the plan of a sound tree is sound, where its height is within the limit
+-- the plan of a sound tree is sound if its height is within the limit
 pub sound_planned : (s : Settings) (m now : TreeInMemory) (cs : List (Command Global)) → IsSoundInMemory s m → AreAllHome now × (tree_of now ≡ planned_tree s (tree_of m) cs) → now.height ≤ 64
     → IsProper s (planned_tree s (tree_of m) cs) → AreLogsTrue (planned_tree s (tree_of m) cs) → IsSoundInMemory s now
 sound_planned s m now cs sound planned low proper logs = record {

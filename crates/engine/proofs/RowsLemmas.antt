@@ -70,7 +70,7 @@ module _ (honest : Bool) (s : Settings) where
       by (inr refused) = inr (refused_end st now left last is shows refused)
   calm_end st left (row ∷ rows) now last are calm none = absurd (cc)
 
-  -- whole rows are rows of which the last one may be cut short
+  -- whole rows are rows, the last of which may be cut short
   row_cut : (cut : Bool) (earlier : List CleanRow) (st : Store) (left : List ℕ) (row : CleanRow) (now : Store) (last : List ℕ)
       → IsRow honest false s earlier st left row now last → IsRow honest cut s earlier st left row now last
   row_cut cut earlier st left row now last r = record { shown = r.shown; begins = r.begins; done = r.done; some = r.some; few = r.few; whole = λ _. r.whole refl }
@@ -173,7 +173,7 @@ module _ {D : Type 0} (view : D → View) (failures : D → ℕ) (lawful : (disk
 
   -- ---- a clean that is refused
 
-  -- by its right, if neither a call of the disk nor an allocation failed
+  -- as defined, if neither a call of the disk nor an allocation failed
   own_refusal : (x : State D) (st : Store) (file : List ℕ) (old new : ℕ) (fault : Fault) → (fault ≢ Device) × (fault ≢ NoMemory) → IsStepFault x.settings st file old new Clean fault
       → after_step {A = Global} (batching x.settings) x.settings st file Clean ≡ Err fault
   own_refusal x st file old new fault other (inl right) = right

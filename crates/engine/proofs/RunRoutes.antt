@@ -1,5 +1,5 @@
--- The runs of a batch's leaves, which lack some commands that find nothing there: the leaves make of them what they make of all commands that
--- go to them, but for blank answers.
+-- The runs of a batch's leaves, which lack some commands that find nothing there: the results of the leaves are the same as for all commands that go
+-- to them, except for blank answers.
 use Rattle.std.specs.Prelude.{◌≡◌, ℕ, Bool, true, false, not, cond, ⊤, List, [], ◌∷◌, map, Option}
 use Rattle.std.proofs.Common.{refl, sym, ap, ◌∙◌, subst}
 use Rattle.std.specs.List.{AllByRecursion, filter}
@@ -47,11 +47,11 @@ module _ (s : Settings) (cs : List (Command Global)) (ends : List (Option (List 
   abbrev ended : List (Command Global)
   ended = with_ends cs ends
 
-  -- what a leaf's job makes of a route's commands
+  -- the result of a leaf's job for a route's commands
   abbrev made_by : List (Command Global) → Route → LeafMade
   made_by ds r = leaf_made s ds (leaf_held t r)
 
-  -- a leaf makes of the one route's commands what it makes of the other's, but for blank answers, with nearer ends or without
+  -- the results of a leaf for the commands of both routes are the same, except for blank answers, with closer ends or without
   pub record IsSameWork (r w : Route) : Type 0 where
     pub pid : r.pid ≡ w.pid
     pub reads : is_only_read cs r ≡ is_only_read cs w
@@ -78,7 +78,7 @@ module _ (s : Settings) (cs : List (Command Global)) (ends : List (Option (List 
       abbrev run_with : List ℕ → Route
       run_with ps = record { pid = at.pid; places = ps }
 
-      -- with nearer ends a leaf makes the same of commands that go to it
+      -- with closer ends the result of a leaf is the same for commands that go to it
       same_ended : (ps : List ℕ) → AllByRecursion (λ place. goes_at ended at.low at.end place ≡ true) ps → made_by cs (run_with ps) ≡ made_by ended (run_with ps)
       same_ended ps goes =
           let held = leaf_held t (run_with ps) in
@@ -129,7 +129,7 @@ module _ (s : Settings) (cs : List (Command Global)) (ends : List (Option (List 
     runs_same (AreRunsOf.left_out {ats = ats} {rs = rs} at e a) h f =
         subst (λ (ws : List Route). AreSameWork rs ws) (ap (λ (b : Bool). cond b (route_to ended at ∷ kept ended ats) (kept ended ats)) (sym e)) (runs_same a h.1 f.1)
 
-  -- ---- what follows of all
+  -- ---- the consequences for all leaves
 
   pub same_pids : (rs ws : List Route) → AreSameWork rs ws → route_pids rs ≡ route_pids ws
   same_pids [] [] a = refl
@@ -149,7 +149,7 @@ module _ (s : Settings) (cs : List (Command Global)) (ends : List (Option (List 
   all_ended (r ∷ rs) [] a = absurd a
   all_ended (r ∷ rs) (w ∷ ws) a = ap (λ (x : LeafMade). x ∷ leaves_made s cs t rs) a.0.nearer ∙ ap (λ (xs : List LeafMade). made_by ended r ∷ xs) (all_ended rs ws a.1)
 
-  -- all answers, but for blank ones
+  -- all answers, except for blank ones
   pub all_but_blank : (rs ws : List Route) → AreSameWork rs ws → AreButBlank ended (answers (leaves_made s ended t rs)) (answers (leaves_made s ended t ws))
   all_but_blank [] [] a = AreButBlank.none
   all_but_blank [] (w ∷ ws) a = absurd a
@@ -172,7 +172,7 @@ module _ (s : Settings) (cs : List (Command Global)) (ends : List (Option (List 
   abbrev seen_by : List (Command Global) → List Route → List SeenPage
   seen_by ds rs = map (λ x. page_seen Leaf x.updated) (leaves_made s ds t rs)
 
-  -- and are seen as the same
+  -- and their views are the same
   pub same_seen : (rs ws : List Route) → AreSameWork rs ws → seen_by cs rs ≡ seen_by ended ws
   same_seen [] [] a = refl
   same_seen [] (w ∷ ws) a = absurd a

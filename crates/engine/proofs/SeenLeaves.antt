@@ -1,5 +1,5 @@
--- The leaves of a level once those that commands change were taken and worked: what was made of these is seen, each other is at
--- home and the same.
+-- The leaves of a level after those that commands change were checked out and updated: the results for these are the seen pages, and each other leaf
+-- is in the table and unchanged.
 use Rattle.std.specs.Prelude.{◌≡◌, ◌≢◌, ℕ, ◌||◌, Bool, true, false, cond, List, [], ◌∷◌, map, Option, Some, None}
 use Rattle.std.proofs.Common.{refl, sym, ap, ◌∙◌, subst}
 use Rattle.std.specs.declared.alloc.Global.{Global}
@@ -59,21 +59,21 @@ distinct_routes (p ∷ q ∷ qs) cs d =
 
 -- ---- one leaf
 
--- its place is away, once it is taken
+-- its place is empty after it is checked out
 first_taken : (u : Mapping PageOfKind) (n : ℕ) (ns : List ℕ) → place_of (all_taken u (n ∷ ns)) n ≡ Some None
 first_taken u n ns = taken_away u (n ∷ ns) n (ap (λ (b : Bool). b || is_among n ns) (eq-eqb n n refl))
 
--- the others stay at home
+-- the others stay in the table
 still_there : (u : Mapping PageOfKind) (k : ℕ) (ps : List (Placed (List ℕ))) → AllByRecursion (λ n. n ≢ k) (pids ps) → AreHome Leaf u ps → AreHome Leaf (with_place u k None) ps
 still_there u k ps d h =
     still_home Leaf u (with_place u k None) ps (all_weaker (λ n. n ≢ k) (λ n. place_of (with_place u k None) n ≡ place_of u n) (λ n e. taken_others u (k ∷ []) n (not_among n (k ∷ []) ((λ f. e (sym f)), tt))) (pids ps) d) h
 
--- the commands of the routes that don't pass come to no run
+-- the commands of the routes that do not pass have an empty net run
 abbrev pub ComeToNone : List (Command Global) → (Route → Bool) → Type 0
 ComeToNone cs w = (r : Route) → w r ≡ false → (n : Pairs) → net_run n (commands_at cs r.places) ≡ []
 
 module _ (s : Settings) (cs : List (Command Global)) (t : Mapping PageOfKind) where
-  -- what is seen of the leaves that were taken out of this table
+  -- the views of the leaves that were checked out of this table
   abbrev pub seen_of : List Route → List SeenPage
   seen_of rs = map (λ d. page_seen Leaf d.updated) (leaves_made s cs t rs)
 
@@ -82,9 +82,9 @@ module _ (s : Settings) (cs : List (Command Global)) (t : Mapping PageOfKind) wh
   made_is p places run h e =
       ap (λ (o : Option (Option PageOfKind)). (leaf_made s cs (record { page = page_or_none (at_home o); route = record { pid = p.pid; places = places } })).updated) h ∙ ap (λ (r : Changes). updated s p r) e
 
-  -- where only those are taken that pass, and the commands of all others come to no run
+  -- if only those that pass are checked out, and the commands of all others have an empty net run
   module _ (w : Route → Bool) (quiet : ComeToNone cs w) where
-    -- of a leaf that gets no run, and stays
+    -- for a leaf that gets no run, and stays
     same_there : (p : Placed (List ℕ)) (run : Changes) (rs : List Route) (ws : List (Updated (List ℕ))) (u : Mapping PageOfKind)
         → place_of u p.pid ≡ Some (Some (Leaf p.page)) → run ≡ [] → is_among p.pid (route_pids rs) ≡ false
         → AreSeen Leaf (all_taken u (route_pids rs)) (seen_of rs) ws → AreSeen Leaf (all_taken u (route_pids rs)) (seen_of rs) (updated s p run ∷ ws)
@@ -111,7 +111,7 @@ module _ (s : Settings) (cs : List (Command Global)) (t : Mapping PageOfKind) wh
     -- ---- all of them
 
     module _ (m : Pairs) (rising : IsRising m) where
-      -- from a page on, where the leaves are at home in the table before, and in the one that others were taken out of
+      -- from a page on, if the leaves are in the table before, and in the table from which others were checked out
       pub seen_from : (p : Placed (List ℕ)) (ps : List (Placed (List ℕ))) (left : Changes) (u : Mapping PageOfKind) → Tiled (p ∷ ps) None → IsLeft m (net_run m cs) p ps left → AreHome Leaf t (p ∷ ps) → AreHome Leaf u (p ∷ ps) → Distinct (pids (p ∷ ps))
           → AreSeen Leaf (all_taken u (route_pids (filter w (routes (p ∷ ps) cs)))) (seen_of (filter w (routes (p ∷ ps) cs))) (updated_leaves s left (p ∷ ps))
       seen_from p [] left u tiled l h k d =

@@ -1,4 +1,4 @@
--- What is numbered is read back.
+-- Numbered snapshots are read back.
 use Rattle.std.proofs.Common.{◌≡◌, ◌∙◌, ℕ, zero, suc, ◌+◌, ◌-◌, ◌<◌, ◌≤◌, true, List, [], ◌∷◌, ◌++◌, length, Option, Some, None, refl, sym, ap, inl, inr, ⊎_elim, subst, append_assoc, arith}
 use Rattle.std.proofs.Math.Nat.{eq-or-lt_of_le}
 use Rattle.std.specs.List.{slice_get}
@@ -117,7 +117,7 @@ held-last (x ∷ xs) = ap (λ n. slice_get (x ∷ xs) n) (Prim.omega (arith))
 
 -- ---- rows
 
--- a row of the range was added, where there may be more
+-- a row of the range was added, if there may be more
 pub row-added : (lo : Bytes) (hi : Option Bytes) (limit n m : ℕ) (out all : Pairs Bytes) (k v : Bytes) (es : Pairs Bytes) → n < limit → m ≡ n + 1 → is_within lo hi k ≡ true →
     out ++ rows lo hi (limit - n) ((k, v) ∷ es) ≡ all → (out ++ (k, v) ∷ []) ++ rows lo hi (limit - m) es ≡ all
 row-added lo hi limit n m out all k v es few longer within h =

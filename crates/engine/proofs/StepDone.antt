@@ -21,13 +21,14 @@ use Rattle.recovery.specs.StoreOfDisk.{store_of_disk, and_then}
 use Rattle.cleaner.specs.AfterClean.{after_clean}
 use Rattle.cleaner.specs.Cleaned.{IsCleanFault}
 use Rattle.engine.specs.Batch.{IsLaterFault, height_fault, refusal_by}
-use Rattle.engine.specs.Calls.{after_writing, IsLateInWriting, IsWritingFault}
+use Rattle.engine.specs.Calls.{after_writing, IsLateInWriting}
+use Rattle.engine.specs.OneStep.{step_by, answer_by}
 use Rattle.engine.specs.Plays.{IsLateInStep, IsStepFault, IsLeftInStep}
 use Rattle.engine.specs.Refusal.{refusal, first_fault, deed_fault, fault_at, key_fault, value_fault, bound_fault}
 use Rattle.engine.specs.Steps.{Step, Stepped, NumbersFit, unless_refused, after_step, batching}
 use Rattle.engine.specs.Steps.Step.{Batch, Clean}
 use Rattle.engine.specs.Steps.Answer.{Replies, Cleaned}
-use Rattle.engine.proofs.TextSteps.{step_by, answer_by, after_text_step}
+use Rattle.engine.proofs.TextSteps.{IsWritingFault, after_text_step}
 
 pub fine_where : {T : Type 0} (b : Bool) (r : Result T Fault) (x : T) → r ≡ Ok x → (b ≡ true → r ≡ Err Failed) → b ≡ false
 fine_where false r x ok failed = refl

@@ -1,4 +1,4 @@
--- Steps that are played one after the other: what they answer, and what their disk stands for.
+-- Steps that are played in sequence: their answers, and the store that their disk encodes.
 use Rattle.std.specs.Prelude.{◌≡◌, ℕ, List, [], ◌∷◌, ◌++◌, length, take, Option, Some, None, Result, Ok, Err}
 use Rattle.std.proofs.Common.{refl, sym, ap, ◌∙◌, subst}
 use Rattle.keys.specs.Lists.{flat}
@@ -31,11 +31,11 @@ cleaned-tree s st now file bytes h = ap (λ (x : Store). x.tree) (clean-done s s
 
 -- ---- steps
 
--- what a disk stands for
+-- the store that a disk encodes
 abbrev stored : Settings → Store → Result (Settings × Store) Fault
 stored s st = Ok (s, st)
 
--- the store that a disk stands for is the one with which a store is in step, with the same ends of the log and the same version
+-- the store that a disk encodes is the one with which a store is in step, with the same ends of the log and the same version
 with_ends : (s : Settings) (st on_disk : Store) (file : List ℕ) → store_of_disk file ≡ Ok (s, on_disk) → IsInStep s st file
     → AreInStep st on_disk × (store_of_disk file ≡ Ok (s, with_tree st on_disk.tree))
 with_ends s st on_disk file read (other, is, step) =
@@ -46,12 +46,12 @@ with_ends s st on_disk file read (other, is, step) =
     (here, read ∙ ap (stored s) (ap (λ (x : Store). with_tree x on_disk.tree) (same_store st on_disk on_disk.tree (slot_of on_disk) here refl)))
 
 module _ {A : Type 0} (b : Batching A) (s : Settings) (keeps : KeepsStores s b) where
-  -- where nothing more is played
+  -- if no more steps are played
   stopped : (st on_disk : Store) (file : List ℕ) (steps : List (Step A)) (fault : Option Fault) → store_of_disk file ≡ Ok (s, on_disk) → IsStoreOf s st file
       → ArePlayed b s st.tree on_disk.tree steps (record { answers = []; store = st; bytes = file; fault = fault })
   stopped st on_disk file steps fault read is = record { replies = refl; holds = refl; disk = (with_ends s st on_disk file read is.step).1; store = is }
 
-  -- what is played on from a store
+  -- the steps that are played from a store on
   abbrev PlaysOn : List (Step A) → Type 0
   PlaysOn xs = (st on_disk : Store) (file : List ℕ) → store_of_disk file ≡ Ok (s, on_disk) → IsStoreOf s st file → AllNumbersFit b s st file xs
       → ArePlayed b s st.tree on_disk.tree xs (plays b s st file xs)
@@ -79,7 +79,7 @@ module _ {A : Type 0} (b : Batching A) (s : Settings) (keeps : KeepsStores s b) 
           store = later.store;
         }
 
-    -- on from what a flush or an upgrade left
+    -- from the store after a flush or an upgrade on
     further : (now : Store) (bytes : List ℕ) → (store_of_disk bytes ≡ Ok (s, now)) × IsStoreOf s now bytes → now.tree ≡ flushed st.tree → AllNumbersFit b s now bytes xs
         → ArePlayed b s (flushed st.tree) (flushed st.tree) xs (plays b s now bytes xs)
     further now bytes (here, store) same words = subst (λ (t : Tree). ArePlayed b s t t xs (plays b s now bytes xs)) same (on now now bytes here store words)

@@ -1,4 +1,4 @@
--- The tasks of a batch: the leaves that they hold are those that may be changed, and what is made of them comes to the answers of all.
+-- The tasks of a batch: the leaves that they hold are those that may be changed, and their results have the answers of all leaves.
 use Rattle.std.specs.Prelude.{◌≡◌, ◌≢◌, ℕ, Bool, true, false, ◌++◌, map, flat_map, length, slice_get, List, [], ◌∷◌, Option, Some, None, Result, Ok, Err, IfOk, IsOkAnd, if◌then◌else◌}
 use Rattle.std.proofs.Common.{refl, sym, ap, ◌∙◌, subst}
 use Rattle.std.specs.List.{All, AllByRecursion}
@@ -35,9 +35,9 @@ use Rattle.engine.specs.declared.leaf_tasks.TaskDone.TheVariants.{Read as WasRea
 use Rattle.engine.proofs.BatchLeaves.{leaf_there, leaves_next, back_away, back_is_before}
 use Rattle.engine.proofs.PartedLemmas.{all_passing, distinct_passing}
 
--- ---- what was made, by what came home
+-- ---- the results, in terms of the returned outputs
 
--- the leaf that was changed, as what was made of it has it
+-- the leaf that was changed, in the result for it
 abbrev changed_made : TaskMade → List LeafMade
 changed_made (Answered ps) = []
 changed_made (Changed m) = m ∷ []
@@ -78,7 +78,7 @@ module _ (cs : List (Command Global)) (t : Mapping PageOfKind) where
     abbrev job_made : Route → LeafMade
     job_made r = leaf_made s cs (leaf_held t r)
 
-    -- what is made of the task of a route
+    -- the result of the task of a route
     abbrev pub made_for : Route → TaskMade
     made_for r = if is_only_read cs r then Answered (job_made r).pieces else Changed (job_made r)
 
@@ -100,7 +100,7 @@ module _ (cs : List (Command Global)) (t : Mapping PageOfKind) where
     pieces_for [] = refl
     pieces_for (r ∷ rs) = pieces_by r rs (is_only_read cs r) refl (pieces_for rs)
 
-    -- so what came home has the answers of all leaves, and what became of those that may be changed
+    -- so the returned outputs have the answers of all leaves, and the results for those that may be changed
     module _ (rs : List Route) (ds : List TaskDone) (made : map done_made ds ≡ map made_for rs) where
       pub answers_there : pieces_of ds ≡ answers (leaves_made s cs t rs)
       answers_there =
@@ -109,23 +109,23 @@ module _ (cs : List (Command Global)) (t : Mapping PageOfKind) where
       pub changed_there : map (λ d. d.made) (changed_of ds) ≡ leaves_made s cs t (written_routes cs rs)
       changed_there = changed_by_made ds ∙ ap (λ (ms : List TaskMade). flat_map changed_made ms) made ∙ changed_for rs
 
-  -- and what the changed ones held
+  -- and the original pages of the changed ones
   pub held_there : (rs : List Route) (ds : List TaskDone) → map done_held ds ≡ map (task_for t cs) rs → map (λ d. d.held) (changed_of ds) ≡ map (leaf_held t) (written_routes cs rs)
   held_there rs ds h = changed_by_held ds ∙ ap (λ (hs : List TaskHeld). taken_of hs) h ∙ taken_for rs
 
--- as many come home as there are routes
+-- there are as many outputs as routes
 pub as_many : (cs : List (Command Global)) (t : Mapping PageOfKind) (rs : List Route) (ds : List TaskDone) (hs : List TaskHeld) → map done_held ds ≡ hs → hs ≡ map (task_for t cs) rs → length ds ≡ length rs
 as_many cs t rs ds hs o e = sym (length-map ds done_held) ∙ ap (λ (xs : List TaskHeld). length xs) (o ∙ e) ∙ length-map rs (task_for t cs)
 
 -- ---- leaves that are only read stay
 
--- where a leaf stays it is answered as it would be if it was taken
+-- the answers of a leaf that stays are the same as if it was checked out
 pub answers_by : (cs : List (Command Global)) (o : Option PageOfKind) (r : Route) → IsLeafAt o → answers_at cs o r ≡ leaf_answers cs (record { page = page_or_none o; route = r })
 answers_by cs None r h = absurd h
 answers_by cs (Some p) r h = refl
 
 module _ (cs : List (Command Global)) where
-  -- the page of a route that is only read has another pid than all these
+  -- the page of a route that only reads has another pid than all these
   abbrev IsApart : List Route → Route → Type 0
   IsApart rs q = is_only_read cs q ≡ true → AllByRecursion (λ n. n ≢ q.pid) (route_pids (written_routes cs rs))
 
@@ -145,7 +145,7 @@ module _ (cs : List (Command Global)) where
   all_apart (r ∷ rs) d = (apart_first r rs d.0, apart_later r rs rs d.0 (all_apart rs d.1))
 
   module _ (s : Settings) (t : Mapping PageOfKind) (now : TreeInMemory) where
-    -- where a leaf that is only read stands as before, its task may be worked
+    -- if a leaf that is only read is in the table as before, its task is a valid input
     updated_by : (r : Route) (b : Bool) → is_only_read cs r ≡ b → (is_only_read cs r ≡ true → place_of now.table r.pid ≡ place_of t r.pid) → IsLeafAt (page_of t r.pid) → ArePlacesOf cs r.places → MayBeWorked now cs (task_for t cs r)
     updated_by r true e stays home places =
         let there : IsRouteToRead now cs r = record { home = subst (λ (o : Option (Option PageOfKind)). IsLeafAt (at_home o)) (sym (stays e)) home; places = places } in rw e there
@@ -183,33 +183,33 @@ module _ (s : Settings) (cs : List (Command Global)) (tree now : TreeInMemory) (
   table_is : now.table ≡ all_taken tree.table (route_pids (written_routes cs rs))
   table_is = ap (λ (m : TreeInMemory). m.table) taken
 
-  -- the tasks may be worked, once the leaves that may be changed were taken
+  -- the tasks are valid inputs after the leaves that may be changed were checked out
   pub may_be_updated : (js : List LeafTask) → map task_held js ≡ map (task_for tree.table cs) rs → All (λ j. MayBeWorked now cs (task_held j)) js
   may_be_updated js e =
       let each = all_updated cs s tree.table now rs table_is rs (all_apart cs rs routes.distinct) routes.home routes.places in
       All-from_recursion (λ (j : LeafTask). MayBeWorked now cs (task_held j)) js (held_by now cs js (subst (λ (hs : List TaskHeld). AllByRecursion (MayBeWorked now cs) hs) (sym e) each))
 
-  -- and what is made of them
+  -- and their results
   pub made_is : (hs : List TaskHeld) (ms : List TaskMade) → hs ≡ map (task_for tree.table cs) rs → ms ≡ map (task_made now s cs) hs → ms ≡ map (made_for cs tree.table s) rs
   made_is hs ms e m =
       m ∙ ap (λ (xs : List TaskHeld). map (task_made now s cs) xs) e ∙ all_made cs s tree.table now rs table_is rs (all_apart cs rs routes.distinct) routes.home
 
--- ---- tasks that could not be worked come back
+-- ---- tasks that could not be done are returned
 
 module _ (cs : List (Command Global)) (tree taken : TreeInMemory) (rs : List Route) (routes : AreLeafRoutes tree.table cs rs) (js again : List LeafTask) (n : taken ≡ tree_taken tree (route_pids (written_routes cs rs)))
     (e : map task_held js ≡ map (task_for tree.table cs) rs) (f : map task_held again ≡ map task_held js) where
   held_again : taken_of (map task_held again) ≡ map (leaf_held tree.table) (written_routes cs rs)
   held_again = ap (λ (hs : List TaskHeld). taken_of hs) (f ∙ e) ∙ taken_for cs tree.table rs
 
-  -- the places of the leaves that they hold are away
+  -- the places of the leaves that they hold are empty
   pub again_away : Distinct (route_pids (written_routes cs rs)) → AreAway taken.table (map (λ h. h.route.pid) (taken_of (map task_held again)))
   again_away d = back_away tree taken (taken_of (map task_held again)) (written_routes cs rs) n held_again d
 
-  -- and once these are put back the tree is as it was
+  -- and after these are put back the tree is the same as before
   pub again_before : (now : TreeInMemory) → now ≡ tree_put taken (under_pids (taken_of (map task_held again))) → AreLeavesHome tree.table (route_pids (written_routes cs rs)) → AreRisingPids (pids_in_use tree.table) → now ≡ tree
   again_before now p h r = back_is_before tree taken now (taken_of (map task_held again)) (written_routes cs rs) n held_again p h r
 
--- ---- leaves are taken, one after the other
+-- ---- leaves are checked out, one after the other
 
 module _ (cs : List (Command Global)) where
   held_apart : (t u : Mapping PageOfKind) (k : ℕ) (rs : List Route) → KeepsOthers t u k → AllByRecursion (λ q. q ≢ k) (route_pids rs) → map (task_for u cs) rs ≡ map (task_for t cs) rs
@@ -219,7 +219,7 @@ module _ (cs : List (Command Global)) where
       ∙ ap (λ (hs : List TaskHeld). task_for t cs r ∷ hs) (held_apart t u k rs keeps d.1)
 
   module _ (tree now : TreeInMemory) (r : Route) (rs all : List Route) (e : all ≡ r ∷ rs) (n : now ≡ tree_taken tree (route_pids (written_routes cs (r ∷ [])))) where
-    -- the others are at home still
+    -- the others are still in the table
     home_by : (b : Bool) → is_only_read cs r ≡ b → AreLeavesHome tree.table (route_pids all) → AreLeavesHome now.table (route_pids rs)
     home_by true o h =
         let same : now ≡ tree = rw o at n in
@@ -241,7 +241,7 @@ module _ (cs : List (Command Global)) where
         let apart = (subst (λ (ys : List Route). AreLeavesHome tree.table (route_pids ys)) e h).1.0 in
         ap (λ (m : TreeInMemory). map (task_for m.table cs) rs) one ∙ held_apart tree.table (with_place tree.table r.pid None) r.pid rs (placed_apart tree.table r.pid None) apart
 
-    -- the next task is pushed, and what tasks hold is what was held and is left
+    -- the next task is pushed, and the tasks so far and the rest hold what all held
     pub held_next : (done pushed : List LeafTask) (task : LeafTask) (hs : List TaskHeld) → AreLeavesHome tree.table (route_pids all) → pushed ≡ done ++ task ∷ [] → task_held task ≡ task_for tree.table cs r
         → map task_held done ++ map (task_for tree.table cs) all ≡ hs → map task_held pushed ++ map (task_for now.table cs) rs ≡ hs
     held_next done pushed task hs home p first h =
@@ -263,7 +263,7 @@ module _ (cs : List (Command Global)) where
         let before : tree_taken tree (r.pid ∷ route_pids (written_routes cs rs)) ≡ last = rw o at h in
         ap (λ (m : TreeInMemory). tree_taken m (route_pids (written_routes cs rs))) one ∙ before
 
-    -- what is left, taken from the tree now, is all taken from the tree before
+    -- checking out the rest from the tree now equals checking out all from the tree before
     pub taken_next : (last : TreeInMemory) → tree_taken tree (route_pids (written_routes cs all)) ≡ last → tree_taken now (route_pids (written_routes cs rs)) ≡ last
     taken_next last h = taken_by_one (is_only_read cs r) refl last (ap (λ (ys : List Route). tree_taken tree (route_pids (written_routes cs ys))) (sym e) ∙ h)
 
@@ -292,11 +292,11 @@ module _ (tree : TreeInMemory) (x : TaskHeld) (xs all : List TaskHeld) (e : all 
   pub away_first : AreAway tree.table (map (λ h. h.route.pid) (taken_of all)) → AreAway tree.table (map (λ h. h.route.pid) (taken_in x))
   away_first a = first_by x (subst (λ (ys : List TaskHeld). AreAway tree.table (map (λ h. h.route.pid) (taken_of ys))) e a)
 
--- the first of routes to leaves at home goes to one
+-- the first of routes to leaves in the table goes to such a leaf
 pub home_first : (tree : TreeInMemory) (r : Route) (rs all : List Route) → all ≡ r ∷ rs → AreLeavesHome tree.table (route_pids all) → IsLeafAt (page_of tree.table r.pid)
 home_first tree r rs all e h = (subst (λ (ys : List Route). AreLeavesHome tree.table (route_pids ys)) e h).0.0
 
--- those that may be changed are at home, each another
+-- those that may be changed are distinct and in the table
 module _ (t : Mapping PageOfKind) (cs : List (Command Global)) (rs : List Route) (routes : AreLeafRoutes t cs rs) where
   pub written_distinct : Distinct (route_pids (written_routes cs rs))
   written_distinct = distinct_passing (is_written cs) rs routes.distinct
@@ -304,7 +304,7 @@ module _ (t : Mapping PageOfKind) (cs : List (Command Global)) (rs : List Route)
   pub written_home : AreLeavesHome t (route_pids (written_routes cs rs))
   written_home = (all_passing (is_written cs) (λ pid. IsLeafAt (page_of t pid)) rs routes.home, written_distinct)
 
--- ---- answers are taken, one leaf after the other
+-- ---- answers are collected, one leaf after the other
 
 without_in : (d : TaskDone) (ds : List LeafUpdate) → map without_answers (changed_in d) ++ map without_answers ds ≡ map without_answers (changed_in d ++ ds)
 without_in (WasRead d) ds = refl
@@ -320,27 +320,27 @@ asked_next old new d ds all last e n h =
     ∙ ap (λ (xs : List TaskDone). old ++ map without_answers (changed_of xs)) (sym e)
     ∙ h
 
--- its answers are the first of all that are left
+-- its answers are the first of the remaining ones
 pub pieces_next : (d : TaskDone) (ds all : List TaskDone) (ps : List (Piece Global)) → all ≡ d ∷ ds → ps ≡ pieces_in d → map pieces_in all ≡ ps ∷ map pieces_in ds
 pieces_next d ds all ps e p = ap (λ (xs : List TaskDone). map pieces_in xs) e ∙ ap (λ (qs : List (Piece Global)). qs ∷ map pieces_in ds) (sym p)
 
--- and what is left makes of the replies with them what all made before
+-- and adding the rest to the replies with them equals adding all to the replies before
 pub gathered_next : (cs : List (Command Global)) (page : List (Piece Global)) (all rest : List (List (Piece Global))) (was now end : List (Reply Global)) → all ≡ page ∷ rest → now ≡ with_pieces cs page was → with_pieces cs (flat all) was ≡ end → with_pieces cs (flat rest) now ≡ end
 gathered_next cs page all rest was now end e n h = ap (λ (rs : List (Reply Global)). with_pieces cs (flat rest) rs) n ∙ with_pieces-page cs page all rest was end e h
 
--- what was good of the replies before is so of those with more answers, if none was refused
+-- a property of the replies before holds for those with more answers, if no allocation failed
 pub carried : {X E : Type 0} (r now : Result X E) (f : X → X → Type 0) (P Q : X → Type 0) → IfOk now (λ y. IsOkAnd r (f y)) → ((x y : X) → f y x → P x → Q y) → IfOk r P → IfOk now Q
 carried (Ok x) (Ok y) f P Q h g p = g x y h p
 carried (Err e) (Ok y) f P Q h g p = absurd h
 carried (Ok x) (Err e) f P Q h g p = tt
 carried (Err d) (Err e) f P Q h g p = tt
 
--- what holds of replies that were not refused holds of the same items
+-- what holds for replies without a failed allocation holds for the same items
 pub through : {X E Y : Type 0} (r : Result X E) (items : X → List Y) (now : List Y) (P : List Y → Type 0) → IsOkAnd r (λ x. now ≡ items x) → IfOk r (λ x. P (items x)) → P now
 through (Ok x) items now P e h = subst P (sym e) h
 through (Err d) items now P e h = absurd e
 
--- once no leaf is left, each reply stands at its place
+-- when no leaf remains, each reply is at its place
 pub all_added : (cs : List (Command Global)) (left : List TaskDone) (all : List (Piece Global)) (rs : List (Reply Global)) → left ≡ [] → AreAnswers cs all → with_pieces cs (pieces_of left) rs ≡ with_pieces cs all (map blank_of cs)
     → (place : ℕ) → slice_get rs place ≡ reply_at cs all place
 all_added cs left all rs none a h place =

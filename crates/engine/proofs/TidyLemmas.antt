@@ -1,4 +1,4 @@
--- Tidying: one more batch, and why one is refused.
+-- Tidying: one more batch, and why a batch is refused.
 use Rattle.std.specs.Prelude.{◌≡◌, List, [], ◌∷◌, ◌++◌, Option, Some, None, Result, Err, MatchOption, IfErr}
 use Rattle.std.proofs.Common.{refl, sym, ap, ◌∙◌, subst, inl, inr}
 use Rattle.std.specs.declared.alloc.Global.{Global}
@@ -25,7 +25,7 @@ untouched s old now same = record { holds = ap (λ (x : Store). contents x.tree)
 pub tidied_by : (s : Settings) (old now : Store) (cs : List (Command Global)) → now ≡ plan s old cs → contents now.tree ≡ contents old.tree → IsTidied s old now
 tidied_by s old now cs is holds = record { holds = holds; batches = cs ∷ []; planned = is }
 
--- one thing after the other
+-- two sequences of batches, one after the other
 pub tidied_further : (s : Settings) (old mid now : Store) → IsTidied s old mid → IsTidied s mid now → IsTidied s old now
 tidied_further s old mid now first then = record {
   holds = then.holds ∙ first.holds;

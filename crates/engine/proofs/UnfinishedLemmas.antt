@@ -1,4 +1,4 @@
--- Whether a disk has zeros alone, or hides a settings block.
+-- Whether a disk has only zeros, or hides a settings block.
 use Rattle.std.proofs.Common.{◌≡◌, ◌<◌, ◌≤◌, ◌+◌, ◌&&◌, ◌==◌, ℕ, Bool, true, false, List, [], ◌∷◌, ◌++◌, length, get_or, take, drop, slice_set, is_some, refl, sym, ap, ap₂, ◌∙◌, arith}
 use Rattle.std.proofs.lemmas.List.{drop-take, length-take, take-append-drop, take-take}
 use Rattle.std.proofs.lemmas.List.Folds.{list_all-append}
@@ -16,7 +16,7 @@ and_false : (a : Bool) → (a && false) ≡ false
 and_false true = refl
 and_false false = refl
 
--- not where a piece has another byte
+-- not if a piece has another byte
 pub piece_other : (xs : List ℕ) (at k : ℕ) → false ≡ are_zeros (take k (drop at xs)) → false ≡ are_zeros xs
 piece_other xs at k other =
     let rest : are_zeros (drop at xs) ≡ false = parts k (drop at xs) ∙ ap (λ (b : Bool). b && are_zeros (drop k (drop at xs))) (sym other) in

@@ -1,4 +1,4 @@
--- The way of a key from the root down to its leaf, and the routes of a command that is on it alone.
+-- The path of a key from the root down to its leaf, and the routes of a single command on that key.
 use Rattle.std.specs.Prelude.{◌≡◌, ℕ, zero, suc, pred, ◌+◌, ◌-◌, ◌<◌, Bool, true, false, cond, List, [], ◌∷◌, ◌++◌, map, length, Option, Some, None}
 use Rattle.std.proofs.Common.{refl, sym, ap, ◌∙◌, subst, arith, length-append}
 use Rattle.std.specs.List.{AllByRecursion, filter}
@@ -45,7 +45,7 @@ only_one (x ∷ xs) zs y h = absurd (omega (arith, length-append xs (y ∷ zs)))
 -- ---- the places for a key
 
 module _ (k : List ℕ) where
-  -- of places the pids of those for the key, and of those that names give
+  -- the pids of the places for the key, and of the separators for the key
   abbrev pids_of : List Place → List ℕ
   pids_of ats = map (λ at. at.pid) (filter (is_place_for k) ats)
 
@@ -61,7 +61,7 @@ module _ (k : List ℕ) where
   from_all : is_within [] None k ≡ true
   from_all = within [] None k (from_nothing (k ∷ [])).0 refl
 
-  -- of names that rise from the least key on, one is for the key
+  -- of separators that rise from the least key on, one is for the key
   one_pid : (ns : Separators) → IsRising ns → next_key ns None ≡ Some [] → length (pids_for ns) ≡ 1
   one_pid [] r f = absurd (cc)
   one_pid (e ∷ es) r f =
@@ -124,7 +124,7 @@ module _ (k : List ℕ) where
           let lone : length (pids_of before ++ next ∷ pids_of after) ≡ 1 = ap (λ (ns : List ℕ). length ns) (sym parts) ∙ one_pid (joined up) (rising-joined up None l.tiled) first in
           parts ∙ only_one (pids_of before) (pids_of after) next lone
 
-  -- the leaf of a level with the key in its range, and that it has at the key what all leaves have
+  -- the leaf of a level with the key in its range, which has the value of all leaves at the key
   record IsLeafOf (pages : List (ℕ × PageOfKind)) (level : List (Placed (List ℕ))) (pid : ℕ) : Type 0 where
     pub leaf : Placed (List ℕ)
     pub home : page_at pages pid ≡ Some (Leaf leaf.page)
@@ -162,7 +162,7 @@ module _ (t : Tree) (held : HoldsLevels t.pages (levels_of t)) (levels : AreLeve
   pub at_root : IsOnWay 0 t.root
   at_root = rw (from_all k) refl
 
-  -- the names of each level begin with the least key
+  -- the separators of each level begin with the least key
   first_at : (i : ℕ) → i < pred t.height → next_key (names_at t.pages t.root i) None ≡ Some []
   first_at zero l = refl
   first_at (suc i) l =
@@ -190,7 +190,7 @@ module _ (t : Tree) (held : HoldsLevels t.pages (levels_of t)) (levels : AreLeve
       let both : None ≡ Some (Index r.page.page) = e ∙ r.home in
       absurd (cc)
 
-  -- and that child is on the way
+  -- and that child is on the path
   pub at_child : (i pid child : ℕ) (page : PageOfKind) → i < pred t.height → IsOnWay i pid → Some page ≡ page_at t.pages pid
       → ((end : Option (List ℕ)) → is_before end k ≡ true → map (λ at. at.pid) (filter (is_place_for k) (children (child_entries page) end)) ≡ child ∷ []) → IsOnWay (i + 1) child
   at_child i pid child page l w e has =
@@ -202,7 +202,7 @@ module _ (t : Tree) (held : HoldsLevels t.pages (levels_of t)) (levels : AreLeve
       let down : pids_for k (joined here.level) ≡ child ∷ [] = r.down child (subst (λ (p : PageOfKind). (end : Option (List ℕ)) → is_before end k ≡ true → pids_of k (children (child_entries p) end) ≡ child ∷ []) same has) in
       subst (λ (j : ℕ). IsOnWay j child) n (ap (λ (ns : Separators). pids_for k ns) here.below ∙ down)
 
-  -- at the leaves it is that of the leaf for the key
+  -- at the leaves it is the pid of the leaf for the key
   pub leaf_at_end : (i pid : ℕ) → i ≡ pred t.height → IsOnWay i pid → IsLeafFor t k pid
   leaf_at_end i pid e w =
       let r =
@@ -210,7 +210,7 @@ module _ (t : Tree) (held : HoldsLevels t.pages (levels_of t)) (levels : AreLeve
       (ap (λ (ns : Separators). pids_for k ns) (sym (names-leaves t held levels)) ∙ subst (λ (j : ℕ). pids_for k (names_at t.pages t.root j) ≡ pid ∷ []) e w) in
       record { page = r.leaf.page; home = r.home; value = r.value }
 
--- what is held under its pid has at the key what the tree has there
+-- the page under its pid has at the key the value of the tree
 pub value_under : (t : Tree) (k : List ℕ) (pid : ℕ) (page : Page (List ℕ)) (layers : Layers (List ℕ)) → IsLeafFor t k pid → page_at t.pages pid ≡ Some (Leaf page) → entries_of page.layers ≡ entries_of layers → value_at k (entries_of layers) ≡ value_at k (contents t)
 value_under t k pid page layers r h l =
     let both : Some (Leaf page) ≡ Some (Leaf r.page) = sym h ∙ r.home in
@@ -219,7 +219,7 @@ value_under t k pid page layers r h l =
 
 -- ---- the routes of one command
 
--- a span that is one key goes to the page in whose range it is
+-- a range of one key goes to the page whose range has the key
 meets_one : (low : List ℕ) (end : Option (List ℕ)) (s : Span) → is_range s ≡ false → meets_page low end s ≡ is_within low end (first_of s)
 meets_one low end (One k) h = refl
 meets_one low end (Range lo hi) h = absurd (cc)
@@ -240,7 +240,7 @@ module _ (c : Command Global) (point : is_ranged c ≡ false) where
   routes_alone (at ∷ ats) =
       alone_by (goes_to at.low at.end c) (is_place_for (key_of c) at) at (filter (is_place_for (key_of c)) ats) (filter has_places (map (route_to (c ∷ [])) ats)) (meets_one at.low at.end (span_of c) point) (routes_alone ats)
 
-  -- of a command on one key there is one route, to its leaf
+  -- a command on one key has one route, to its leaf
   pub only_route : (t : Tree) (held : HoldsLevels t.pages (levels_of t)) (levels : AreLevels (levels_of t)) (i pid : ℕ) → i ≡ pred t.height → IsOnWay t held levels (key_of c) i pid → routes (levels_of t).level (c ∷ []) ≡ route_alone pid ∷ []
   only_route t held levels i pid e w =
       let at : pids_for (key_of c) (names (levels_of t).level) ≡ pid ∷ [] = ap (λ (ns : Separators). pids_for (key_of c) ns) (sym (names-leaves t held levels)) ∙ subst (λ (j : ℕ). pids_for (key_of c) (names_at t.pages t.root j) ≡ pid ∷ []) e w in

@@ -1,4 +1,4 @@
--- How a batch is refused once its commands are admitted, and how it is refused by its right.
+-- The faults of a batch whose commands are admitted, and the faults that store and commands determine.
 use Rattle.std.specs.Prelude.{◌≡◌, ◌⊎◌, ℕ, ◌<◌, nat_lt, if◌then◌else◌, List, Option, Some, None}
 use Rattle.std.specs.Option.{option_or}
 use Rattle.keys.specs.declared.settings.Settings.{Settings}
@@ -11,19 +11,19 @@ use Rattle.climb_plan.specs.declared.refused.Refused.TheVariants as refusals
 use Rattle.climb_plan.specs.Plan.{planned_tree}
 use Rattle.engine.specs.Refusal.{refusal}
 
--- for lack of memory, or because the planned tree would have more levels than a tree may have
+-- out of memory, or the planned tree would have more levels than a tree may have
 abbrev pub IsLaterFault : {A : Type 0} → Settings → Tree → List (Command A) → Fault → Type 0
 IsLaterFault s t cs fault = (fault ≡ NoMemory) ⊎ ((fault ≡ Spent) × (most_levels < (planned_tree s t cs).height))
 
--- the fault of a climb that is refused
+-- the fault for a climb that failed
 abbrev pub fault_by : Refused → Fault
 fault_by refusals.NoMemory = NoMemory
 fault_by refusals.TooHigh = Spent
 
--- what is wrong with a tree of `height` levels
+-- the fault for a tree of `height` levels, if it has too many
 abbrev pub height_fault : ℕ → Option Fault
 height_fault height = if nat_lt most_levels height then Some Spent else None
 
--- why a batch is refused but for lack of memory: its own fault, or else that the planned tree would have too many levels
+-- the fault of a batch, apart from memory: the fault of its commands, or else that the planned tree would have too many levels
 abbrev pub refusal_by : {A : Type 0} → Settings → Tree → List (Command A) → Option Fault
 refusal_by s t cs = option_or (refusal s cs) (height_fault (planned_tree s t cs).height)

@@ -1,5 +1,5 @@
 -- What the calls of a store on a disk answer, where a store and its bytes don't decide it alone.
-use Rattle.std.specs.Prelude.{◌≡◌, ◌≢◌, ◌⊎◌, ⊤, ℕ, [], Result, Ok, Err}
+use Rattle.std.specs.Prelude.{◌≡◌, ◌≢◌, ◌⊎◌, ⊤, ℕ, [], Result, Ok}
 use Rattle.keys.specs.Bytes.{Bytes}
 use Rattle.keys.specs.declared.fault.Fault.{Fault}
 use Rattle.keys.specs.declared.fault.Fault.TheVariants.{NoMemory, Device}
@@ -41,11 +41,6 @@ abbrev pub IsLateInWriting : CommitKind → Settings → Store → Bytes → ℕ
 IsLateInWriting text s st file old new fault =
     ((fault ≡ NoMemory) × IsToWrite text st) ⊎ ((fault ≡ Device) × HasFailed old new × WouldWrite text s st file)
 
--- why it is refused: by its right, or late
-abbrev pub IsWritingFault : CommitKind → Settings → Store → Bytes → ℕ → ℕ → Fault → Type 0
-IsWritingFault text s st file old new fault =
-    (after_writing text s st file ≡ Err fault) ⊎ IsLateInWriting text s st file old new fault
-
 -- a store whose log has this version
 abbrev pub with_version : Version → Store → Store
 with_version version st = record { tree = st.tree; head = st.head; tail = st.tail; sequence = st.sequence; version = version }
@@ -53,17 +48,3 @@ with_version version st = record { tree = st.tree; head = st.head; tail = st.tai
 -- the commit by which this text is written, which nothing refuses: it adds the text to the store's log, and names the version of the text
 abbrev pub IsWriting : CommitKind → Settings → Store → CommitPlan → Type 0
 IsWriting text s st m = IsPlanned s (slot_of (with_version (version_with text) st)) (commit_frames text st.tree) m
-
--- ---- each of them
-
--- a flush of this store would be done, and has something to write
-abbrev pub WouldFlush : Settings → Store → Bytes → Type 0
-WouldFlush s st file = WouldWrite (Flush st.version) s st file
-
--- why a flush is refused
-abbrev pub IsFlushFault : Settings → Store → Bytes → ℕ → ℕ → Fault → Type 0
-IsFlushFault s st file old new fault = IsWritingFault (Flush st.version) s st file old new fault
-
--- why an upgrade is refused
-abbrev pub IsUpgradeFault : Settings → Store → Bytes → ℕ → ℕ → Fault → Type 0
-IsUpgradeFault s st file old new fault = IsWritingFault Upgrade s st file old new fault

@@ -1,4 +1,4 @@
--- The words of the trait `OrderedStore`, which states what every store promises.
+-- Definitions for the trait `OrderedStore`, which states what every store promises.
 use Rattle.std.specs.Prelude.{◌≡◌, ◌≢◌, ◌⊎◌, Bool, true, Option, Some, None, Result, Ok, Err, MatchResult}
 use Rattle.keys.specs.Bytes.{Bytes, Pairs}
 use Rattle.keys.specs.declared.fault.Fault.{Fault}
@@ -18,10 +18,10 @@ disk_in disk_of (Err e) = e.1
 abbrev pub RecoversEither : (Bytes → Option Held) → Option Held → Option Held → Bytes → Type 0
 RecoversEither recovered first second c = (recovered c ≡ first) ⊎ (recovered c ≡ second)
 
--- these bytes are as they were, or hold no store, or hold the one that is being created
+-- these bytes are unchanged, or encode no store, or the one that is being created
 abbrev pub IsLeftByCreate : (Bytes → Option Held) → Bytes → Held → Bytes → Type 0
 IsLeftByCreate recovered file new c = (c ≡ file) ⊎ (recovered c ≡ None) ⊎ (recovered c ≡ Some new)
 
--- the fault `Device` makes the store a failed one; any other result leaves it as it was
+-- the fault `Device` makes the store a failed one; after any other result it is failed if and only if it was before
 abbrev pub FailsByDevice : {X : Type 0} → Result X Fault → Bool → Bool → Type 0
 FailsByDevice result old new = MatchResult result (λ _. new ≡ old) (λ fault. (fault ≡ Device → new ≡ true) × (fault ≢ Device → new ≡ old))

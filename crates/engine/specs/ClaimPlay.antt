@@ -1,4 +1,4 @@
--- A play of steps on a store that implements `OrderedStore`: what the steps answer and leave, in the words of the trait.
+-- Plays of steps on a store that implements `OrderedStore`: the answers and the effects of the steps, in terms of the trait.
 use Rattle.std.specs.Prelude.{◌≡◌, ◌≢◌, ◌⊎◌, ℕ, ◌≤◌, Bool, IsTrue, true, List, [], ◌∷◌, ◌++◌, length, take, Option, Some, None}
 use Rattle.std.specs.declared.alloc.Global.{Global}
 use Rattle.keys.specs.Bytes.{Bytes, Pairs}
@@ -29,7 +29,7 @@ abbrev pub members_of : {X D State : Type 0} → (X → Pairs Bytes) → (X → 
 members_of contents settings has_failed state disk_of view x =
     record { contents = contents x; settings = settings x; has_failed = has_failed x; state = state x; disk = view (disk_of x) }
 
--- what the calls make of a state, and of the bytes of its disk
+-- the effect of the calls on a state, and on the bytes of its disk
 pub record StateCalls (State : Type 0) : Type 0 where
   pub batch : Settings → State → List (Command Global) → State
   pub flush : Settings → State → Bytes → Option (State × Bytes)
@@ -40,7 +40,7 @@ abbrev pub calls_of : {State : Type 0} → (Settings → State → List (Command
     → (Settings → State → Bytes → Option (State × Bytes)) → StateCalls State
 calls_of batch flush clean upgrade = record { batch = batch; flush = flush; clean = clean; upgrade = upgrade }
 
--- ---- what steps answer and leave
+-- ---- the answers and the effects of steps
 
 -- the pairs after these steps
 abbrev pub contents_after : Pairs Bytes → List (Step Global) → Pairs Bytes
@@ -66,7 +66,7 @@ durable_after s held m (Upgrade ∷ xs) = durable_after s (Some (s, m)) m xs
 abbrev pub IsDurableAfterSome : Settings → Option Held → Pairs Bytes → List (Step Global) → Option Held → Type 0
 IsDurableAfterSome s held m xs h = (n : ℕ) × (n ≤ length xs) × (h ≡ durable_after s held m (take n xs))
 
--- what the next steps make of a state and bytes, if there are some
+-- the effect of the next steps on a state and bytes, if there are some
 abbrev pub then_next : {State : Type 0} → Option (State × Bytes) → (State → Bytes → Option (State × Bytes)) → Option (State × Bytes)
 then_next None next = None
 then_next (Some p) next = next p.0 p.1
@@ -86,7 +86,7 @@ pub record IsTurnOf {State : Type 0} (recovered : Bytes → Option Held) (calls 
   pub answered : AreAnswered old.contents xs answers
   pub contents : new.contents ≡ contents_after old.contents xs
   pub rest : (new.settings ≡ old.settings) × (new.has_failed ≡ old.has_failed) × Kept old.disk new.disk
-  -- a failed store does no step
+  -- a failed store executes no step
   pub none : old.has_failed ≡ true → xs ≡ []
   pub durable : IsTrue old.disk.is_honest → recovered new.disk.seen ≡ durable_after old.settings (recovered old.disk.seen) old.contents xs
   pub state : IsTrue old.disk.is_honest → state_after calls old.settings old.state old.disk.seen xs ≡ Some (new.state, new.disk.seen)
@@ -94,8 +94,8 @@ pub record IsTurnOf {State : Type 0} (recovered : Bytes → Option Held) (calls 
   -- a crash at any moment leaves what was durable after some of the steps
   pub crash : IsSynced old.disk → LeavesOnly old.disk new.disk (λ c. IsDurableAfterSome old.settings (recovered old.disk.seen) old.contents xs (recovered c))
 
--- These steps succeeded, and then the step `x` failed with this fault. It has changed nothing, unless the fault is `Device`: then the store is a
--- failed one, and a crash leaves what was durable before `x`, or what `x` would have made durable.
+-- These steps succeeded, and then the step `x` failed with this fault. It has changed nothing, unless the fault is `Device`: then the store has
+-- failed, and a crash leaves what was durable before `x`, or what `x` would have made durable.
 pub record IsStoppedOf {State : Type 0} (recovered : Bytes → Option Held) (calls : StateCalls State) (old : Members State) (xs : List (Step Global)) (answers : List (Answer Global)) (x : Step Global) (fault : Fault) (new : Members State) : Type 0 where
   pub answered : AreAnswered old.contents xs answers
   pub contents : new.contents ≡ contents_after old.contents xs

@@ -1,4 +1,4 @@
--- A flush that cleans a log with little room: which rows of cleans it does, what they leave, and why it is refused.
+-- A flush that cleans a log with little room: which rows of cleans it performs, their effects, and why it fails.
 use Rattle.std.specs.Prelude.{◌≡◌, ◌≢◌, ◌⊎◌, ℕ, ◌+◌, ◌-◌, ◌/◌, max, min, ◌<◌, ◌≤◌, Bool, IsTrue, true, false, List, [], ◌∷◌, ◌++◌, length, Some, Ok, Err}
 use Rattle.std.specs.declared.alloc.Global.{Global}
 use Rattle.keys.specs.Bytes.{Bytes}
@@ -28,15 +28,15 @@ use Rattle.engine.specs.declared.step.Answer as code_answer
 abbrev pub most_ahead : Settings → ℕ
 most_ahead s = max (s.segments / 8) 1
 
--- what lives in a store's log and what a flush writes are few enough bytes for cleans to make room
+-- the live bytes of a store's log and the bytes that a flush writes are few enough for cleans to make room
 abbrev pub IsRoomy : Settings → Store → Bytes → Type 0
 IsRoomy s st file = (live : ℕ) × (live_known s st file ≡ Some live) × (is_overfull s st live ≡ false)
 
--- they are too many
+-- these bytes are too many
 abbrev pub IsOverfull : Settings → Store → Bytes → Type 0
 IsOverfull s st file = (live : ℕ) × (live_known s st file ≡ Some live) × (is_overfull s st live ≡ true)
 
--- a flush is due while few segments are free, enough bytes of the log are dead for a row of cleans, and not too many live for the flush
+-- a flush is due, few segments are free, enough bytes of the log are dead for a row of cleans, and few enough bytes are live for the flush
 pub record IsEarly (s : Settings) (st : Store) (file : Bytes) : Type 0 where
   pub due : flush_frames st.version st.tree ≢ []
   pub tight : is_tight s st ≡ true
@@ -51,52 +51,52 @@ IsFull s st file = (after_flush s st file ≡ Err Full) × IsRoomy s st file
 
 -- ---- one row of cleans
 
--- what was read of the log ahead of a row of cleans, and what each of its cleans read, one after the other
+-- the bytes that were read of the log before a row of cleans, and those that each of its cleans read, in order
 pub record CleanRow : Type 0 where
   pub ahead : Bytes
   pub reads : List Bytes
 
--- Cleans of a store that read these bytes, one after the other, lead from it and from what its disk was left with to this store and to these last
--- bytes. If the disk is honest, each reads what was left before it.
+-- Cleans of a store that read these bytes, one after the other, lead from the store and the bytes of its disk to this store and to these last bytes.
+-- If the disk is honest, each clean reads the bytes that were left before it.
 abbrev pub AreCleansBy : Bool → Settings → Store → Bytes → List Bytes → Store → Bytes → Type 0
 AreCleansBy honest s st left [] now last = (now ≡ st) × (IsTrue honest → last ≡ left)
 AreCleansBy honest s st left (file ∷ reads) now last =
     (answer : Answer Global) × (mid : Store) × (bytes : Bytes) × (IsTrue honest → file ≡ left)
     × (after_step (batching s) s st file Clean ≡ Ok (answer, (mid, bytes))) × AreCleansBy honest s mid bytes reads now last
 
--- a clean of this store is refused, of bytes that are those that its disk was left with, if that is honest
+-- a clean of this store fails on bytes that, if the disk is honest, are those that were left
 abbrev pub IsCleanRefused : Bool → Settings → Store → Bytes → Type 0
 IsCleanRefused honest s st left = (file : Bytes) × (IsTrue honest → file ≡ left) × (fault : Fault) × (after_step {A = Global} (batching s) s st file Clean ≡ Err fault)
 
--- no row is early: by what was read, or since a clean is refused
+-- no row begins early: because of the bytes that were read, or because a clean fails
 abbrev pub IsCalm : Bool → Settings → Store → Bytes → Type 0
 IsCalm honest s st left = ((ahead : Bytes) × (IsTrue honest → ahead ≡ left) × (IsEarly s st ahead → ⊥)) ⊎ IsCleanRefused honest s st left
 
--- how many cleans some rows have
+-- the total number of cleans in some rows
 abbrev pub count_of : List CleanRow → ℕ
 count_of [] = 0
 count_of (row ∷ earlier) = count_of earlier + length row.reads
 
--- what each of the cleans of some rows reads, one after the other
+-- the bytes that each clean of some rows reads, in order
 abbrev pub reads_in : List CleanRow → List Bytes
 reads_in [] = []
 reads_in (row ∷ earlier) = reads_in earlier ++ row.reads
 
--- how many segments a log has in front of its last one
+-- the number of segments of a log before its last one
 abbrev pub most_cleanable : Settings → Store → ℕ
 most_cleanable s st = last_segment s st.tail - st.head
 
--- How many cleans a row has that begins at this store after these rows, if none of them is refused: as many as a row has at most, but no more than may
--- follow, and no more than there are segments in front of the last one.
+-- The number of cleans in a row that begins at this store after these rows, if none of them fails: at most as many as a row may have, as may still
+-- follow, and as there are segments before the last one.
 abbrev pub row_length : Settings → List CleanRow → Store → ℕ
 row_length s earlier st = min (min (most_ahead s) (s.segments - count_of earlier)) (most_cleanable s st)
 
--- a row begins since the log is full for a flush, and, if it is the first one, it is not early
+-- a row begins because the log is full for a flush, and, if it is the first one, no row begins early
 abbrev pub BeginsFull : Bool → Settings → List CleanRow → Store → Bytes → CleanRow → Type 0
 BeginsFull honest s earlier st left row = IsFull s st row.ahead × (earlier ≡ [] → IsCalm honest s st left)
 
--- A row of cleans, after these earlier rows, leads from a store to this one. It begins since the log is full for a flush, or as the first row, early.
--- It has its whole length, or the next clean is refused; or it was cut short, if it may be.
+-- A row of cleans, after these earlier rows, leads from a store to this one. It begins because the log is full for a flush, or, as the first row,
+-- early. It has its whole length, or the next clean fails; or it was cut short, if it may be.
 pub record IsRow (honest may_be_cut : Bool) (s : Settings) (earlier : List CleanRow) (st : Store) (left : Bytes) (row : CleanRow) (now : Store) (last : Bytes) : Type 0 where
   pub shown : IsTrue honest → row.ahead ≡ left
   pub begins : BeginsFull honest s earlier st left row ⊎ ((earlier ≡ []) × IsEarly s st row.ahead)
@@ -107,21 +107,21 @@ pub record IsRow (honest may_be_cut : Bool) (s : Settings) (earlier : List Clean
 
 -- ---- rows of cleans, the last one first
 
--- Such rows lead from a store to this one. The last one may be cut short, if that is said.
+-- Such rows lead from a store to this one. The last one may be cut short if `may_be_cut` is true.
 abbrev pub AreRows : Bool → Bool → Settings → Store → Bytes → List CleanRow → Store → Bytes → Type 0
 AreRows honest may_be_cut s st left [] now last = (now ≡ st) × (IsTrue honest → last ≡ left)
 AreRows honest may_be_cut s st left (row ∷ earlier) now last =
     (mid : Store) × (bytes : Bytes) × AreRows honest false s st left earlier mid bytes × IsRow honest may_be_cut s earlier mid bytes row now last
 
--- Why a flush that finds the log full is the last one after such rows: there are as many cleans as segments, too much lives for the flush, or a clean
--- is refused.
+-- Why no more cleans follow after such rows although the log is full: there were as many cleans as there are segments, too many bytes are live for
+-- the flush, or a clean fails.
 abbrev pub NoneFollow : Bool → Settings → List CleanRow → Store → Bytes → Type 0
 NoneFollow honest s rows now last = (count_of rows ≡ s.segments) ⊎ ((ahead : Bytes) × (IsTrue honest → ahead ≡ last) × IsOverfull s now ahead) ⊎ IsCleanRefused honest s now last
 
--- ---- a flush that is done
+-- ---- a flush that succeeds
 
--- A store was cleaned in rows, at most once a segment, and then flushed, as a play of these steps does; what it holds stays. The cleans lead to the
--- cleaned store and to these bytes of its disk, and the flush from there.
+-- A store was cleaned in rows, at most one clean for each segment, and then flushed, as in a play of these steps; its contents are unchanged. The
+-- cleans lead to the cleaned store and to these bytes of its disk, and the flush from there.
 pub record IsFlushedCleaning {D : Type 0} (view : D → View) (failures : D → ℕ) (old now : State D) : Type 0 where
   pub rows : List CleanRow
   pub most : count_of rows ≤ old.settings.segments
@@ -136,9 +136,9 @@ pub record IsFlushedCleaning {D : Type 0} (view : D → View) (failures : D → 
   pub turn : IsTurn view failures old (cleans (count_of rows) ++ Flush ∷ []) said now
   pub holds : contents now.store.tree ≡ contents old.store.tree
 
--- ---- a flush that is refused
+-- ---- a flush that fails
 
--- what is answered for this fault of a clean: that the log is full, where it is in one segment
+-- the fault that is returned for this fault of a clean: `Full` if the log is in one segment
 abbrev pub IsWantOfRoom : Fault → Fault → Type 0
 IsWantOfRoom why fault = ((why ≡ NothingToClean) × (fault ≡ Full)) ⊎ ((why ≢ NothingToClean) × (fault ≡ why))
 
@@ -146,17 +146,17 @@ IsWantOfRoom why fault = ((why ≡ NothingToClean) × (fault ≡ Full)) ⊎ ((wh
 abbrev pub IsOfMachine : Fault → Type 0
 IsOfMachine fault = (fault ≡ Device) ⊎ (fault ≡ NoMemory)
 
--- Why it stops after a number of cleans, at a flush or at one more clean. A clean is the first after a flush that finds the log full, or a call of the
+-- Why it stops after a number of cleans, at a flush or at another clean. Such a clean comes after a flush that found the log full, or a call of the
 -- disk or an allocation failed in it.
 abbrev pub IsStop : Settings → Store → Bytes → ℕ → ℕ → ℕ → Step Global → Fault → Type 0
 IsStop s st file old new count x fault =
     ((x ≡ Flush) × IsStepFault s st file old new Flush fault)
     ⊎ ((x ≡ Clean) × (count < s.segments) × ((after_flush s st file ≡ Err Full) ⊎ IsOfMachine fault) × (why : Fault) × IsWantOfRoom why fault × IsStepFault s st file old new Clean why)
 
--- It was refused after rows of cleans, which are done, as a play of these does. The store has the tree that it had.
+-- It failed after rows of cleans, which have the effect of a play of these cleans. The tree of the store is unchanged.
 pub record IsStoppedCleaning {D : Type 0} (view : D → View) (failures : D → ℕ) (old now : State D) (fault : Fault) : Type 0 where
   pub rows : List CleanRow
-  -- what the disk was left with, which it shows, unless a call of it failed
+  -- the bytes that were left on the disk, which are its readable contents unless a call of it failed
   pub left : Bytes
   pub shows : fault ≢ Device → IsTrue (view old.disk).is_honest → left ≡ (view now.disk).seen
   -- the last row is cut short only if a call of the disk or an allocation failed
@@ -164,17 +164,17 @@ pub record IsStoppedCleaning {D : Type 0} (view : D → View) (failures : D → 
   pub cut : may_be_cut ≡ true → IsOfMachine fault
   pub are : AreRows (view old.disk).is_honest may_be_cut old.settings old.store (view old.disk).seen rows now.store left
   pub calm : rows ≡ [] → IsOfMachine fault ⊎ IsCalm (view old.disk).is_honest old.settings old.store (view old.disk).seen
-  -- it is full only if no more cleans may follow, or could help
+  -- the fault is `Full` only if no more cleans may follow, or none could help
   pub full : fault ≡ Full → NoneFollow (view old.disk).is_honest old.settings rows now.store left
   pub said : List code_answer.Answer
   pub played : IsPlayed (view old.disk).is_honest old.settings old.store (view old.disk).seen (cleans (count_of rows)) said now.store
   pub exact : IsTrue (view old.disk).is_honest → IsPlayedOn old.settings old.store (view old.disk).seen (cleans (count_of rows)) said now.store
   pub tree : now.store.tree ≡ old.store.tree
   pub rest : (now.settings ≡ old.settings) × Kept (view old.disk) (view now.disk)
-  -- all that is promised of these, but where a call of the disk failed; then the store has failed
+  -- everything that is promised of a play of these cleans, unless a call of the disk failed; then the store has failed
   pub turn : fault ≢ Device → IsTurn view failures old (cleans (count_of rows)) said now
   pub device : fault ≡ Device → now.has_failed ≡ true
-  -- the step that was refused, and why
+  -- the step that failed, and why
   pub step : Step Global
   pub why : (file : Bytes) × (IsTrue (view old.disk).is_honest → file ≡ (plays (batching old.settings) old.settings old.store (view old.disk).seen (cleans (count_of rows))).bytes)
       × IsStop old.settings now.store file (failures old.disk) (failures now.disk) (count_of rows) step fault
@@ -182,8 +182,8 @@ pub record IsStoppedCleaning {D : Type 0} (view : D → View) (failures : D → 
   pub crash : old.has_failed ≡ false → IsSynced (view old.disk)
       → LeavesOnly (view old.disk) (view now.disk) (StandsAfterSome (batching old.settings) old.settings old.store (view old.disk).seen (cleans (count_of rows) ++ step ∷ []))
 
--- the store that is cleaned and flushed: as it was; or compacted, which it is only if a flush is due, its log is two thirds full, and its
--- tree is bloated
+-- the store that is cleaned and flushed: unchanged, or compacted, which happens only if a flush is due, the log is two thirds full, and the tree is
+-- bloated
 abbrev pub IsStart : {D : Type 0} → State D → State D → Type 0
 IsStart old start =
     (start ≡ old)
@@ -192,32 +192,32 @@ IsStart old start =
 
 -- ---- parts of it
 
--- this holds of the store and of bytes that are those of its disk, if that is honest
+-- this holds for the store and for some bytes, which on an honest disk are its contents
 abbrev pub IsOfBytes : {D : Type 0} → (D → View) → State D → (Settings → Store → Bytes → Type 0) → Type 0
 IsOfBytes view x holds = (file : Bytes) × (IsTrue (view x.disk).is_honest → file ≡ (view x.disk).seen) × holds x.settings x.store file
 
--- no row is early, by what the disk shows
+-- no row begins early, by the readable contents of the disk
 abbrev pub IsCalmOn : {D : Type 0} → (D → View) → State D → Type 0
 IsCalmOn view x = IsCalm (view x.disk).is_honest x.settings x.store (view x.disk).seen
 
--- a clean of this store is refused, by what the disk shows
+-- a clean of this store fails, by the readable contents of the disk
 abbrev pub IsCleanRefusedOn : {D : Type 0} → (D → View) → State D → Type 0
 IsCleanRefusedOn view x = IsCleanRefused (view x.disk).is_honest x.settings x.store (view x.disk).seen
 
--- a row of so many cleans from one store to another is as long as it may be at most, or the next clean is refused
+-- a row of this many cleans from one store to another has at most the greatest length, and that length unless the next clean fails
 abbrev pub IsWhole : {D : Type 0} → (D → View) → State D → ℕ → ℕ → State D → Type 0
 IsWhole view old most n now =
     (n ≤ min most (most_cleanable old.settings old.store)) × ((n ≡ min most (most_cleanable old.settings old.store)) ⊎ IsCleanRefusedOn view now)
 
--- a reading of this store's log, with the bytes that live, by which as many of its next cleans can be done as a row has, or as there are segments
--- in front of the last one
+-- a reading of this store's log with its number of live bytes, by which as many of the next cleans can be performed as a row has, or as there are
+-- segments before the last one
 pub record IsHeld {D : Type 0} (view : D → View) (x : State D) (r : PagesRead) : Type 0 where
   pub read : IsReadFor view x r
   pub next : x.store.head < r.limit
   pub limit : r.limit ≡ x.store.head + min (most_ahead x.settings) (most_cleanable x.settings x.store)
   pub live : IsOfBytes view x (λ s st file. live_known s st file ≡ Some r.live)
 
--- why there is no reading by which a clean may help: too much lives for the flush, memory was refused, or the reading was refused
+-- why there is no reading by which a clean may help: too many bytes are live for the flush, allocation failed, or the reading failed
 pub record IsNoReading {D : Type 0} (view : D → View) (failures : D → ℕ) (old now : State D) (fault : Fault) : Type 0 where
   pub why : (IsOnlyRead view failures old now × (((fault ≡ Full) × IsOfBytes view now IsOverfull) ⊎ (fault ≡ NoMemory)))
       ⊎ IsRefusedClean view failures old now fault

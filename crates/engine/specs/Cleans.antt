@@ -1,4 +1,4 @@
--- Cleans in turn: what one of them does, and what some of them leave.
+-- Cleans in sequence: the effect of one of them, and of some of them.
 use Rattle.std.specs.Prelude.{◌≡◌, ◌≢◌, ℕ, ◌+◌, IsTrue, true, false, List, [], ◌∷◌, ◌++◌, replicate, Ok}
 use Rattle.std.specs.declared.alloc.Global.{Global}
 use Rattle.keys.specs.Bytes.{Bytes}
@@ -21,13 +21,13 @@ use Rattle.engine.specs.declared.step.Answer.TheVariants.{Cleaned}
 abbrev pub cleans : ℕ → List (Step Global)
 cleans n = replicate n Clean
 
--- so many cleans were done in turn, as a play of them does; the store has the tree that it had
+-- this many cleans succeeded one after the other, as in a play of them; the tree of the store is unchanged
 pub record AreCleaned {D : Type 0} (view : D → View) (failures : D → ℕ) (old : State D) (count : ℕ) (now : State D) : Type 0 where
   pub said : List code_answer.Answer
   pub turn : IsTurn view failures old (cleans count) said now
   pub tree : now.store.tree ≡ old.store.tree
 
--- A clean was refused after so many cleans, which are done, as a play of these does. The store has the tree that it had.
+-- A clean failed after this many cleans, which have the effect of a play of them. The tree of the store is unchanged.
 pub record AreStopped {D : Type 0} (view : D → View) (failures : D → ℕ) (old now : State D) (count : ℕ) (fault : Fault) : Type 0 where
   pub said : List code_answer.Answer
   pub played : IsPlayed (view old.disk).is_honest old.settings old.store (view old.disk).seen (cleans count) said now.store
@@ -35,10 +35,10 @@ pub record AreStopped {D : Type 0} (view : D → View) (failures : D → ℕ) (o
   pub tree : now.store.tree ≡ old.store.tree
   pub sound : IsSound view now
   pub rest : (now.settings ≡ old.settings) × Kept (view old.disk) (view now.disk)
-  -- all that is promised of these, unless a call of the disk failed; then the store has failed
+  -- everything that is promised of a play of these cleans, unless a call of the disk failed; then the store has failed
   pub turn : fault ≢ Device → IsTurn view failures old (cleans count) said now
   pub device : fault ≡ Device → now.has_failed ≡ true
-  -- why the next one was refused
+  -- why the next clean failed
   pub why : (file : Bytes) × (IsTrue (view old.disk).is_honest → file ≡ (plays (batching old.settings) old.settings old.store (view old.disk).seen (cleans count)).bytes)
       × IsStepFault old.settings now.store file (failures old.disk) (failures now.disk) Clean fault
   -- a crash at any moment leaves the store after some of all these cleans
@@ -47,7 +47,7 @@ pub record AreStopped {D : Type 0} (view : D → View) (failures : D → ℕ) (o
 
 -- ---- one of them
 
--- what was read of the log of this store, for cleans of it
+-- a reading of this store's log, for cleans of it
 abbrev pub IsReadFor : {D : Type 0} → (D → View) → State D → PagesRead → Type 0
 IsReadFor view x r = IsReadingOf (view x.disk) (record { settings = x.settings; version = x.store.version }) (ends_of x.store) r
 
@@ -64,7 +64,7 @@ abbrev pub IsLeftInClean : {D : Type 0} → (D → View) → State D → State D
 IsLeftInClean view old now =
     old.has_failed ≡ false → IsSynced (view old.disk) → LeavesOnly (view old.disk) (view now.disk) (IsLeftInStep old.settings old.store (view old.disk).seen Clean)
 
--- a clean was done, as a step of a play is
+-- a clean succeeded
 pub record IsDoneClean {D : Type 0} (view : D → View) (failures : D → ℕ) (old now : State D) (head : ℕ) : Type 0 where
   pub step : (bytes : Bytes) × IsStepDone (view old.disk).is_honest old.settings old.store (view old.disk).seen Clean (Cleaned head) now.store bytes
   pub rest : (now.settings ≡ old.settings) × Kept (view old.disk) (view now.disk)
@@ -89,12 +89,12 @@ pub record IsRefusedClean {D : Type 0} (view : D → View) (failures : D → ℕ
 
 -- ---- further ones
 
--- wherever some cleans had led to this store, so many more led on to the next
+-- if some cleans have led to this store, then this many more lead to the next one
 abbrev pub IsCleanedOn : {D : Type 0} → (D → View) → (D → ℕ) → State D → ℕ → State D → Type 0
 IsCleanedOn {D} view failures cur more next =
     (old : State D) (count : ℕ) → AreCleaned view failures old count cur → AreCleaned view failures old (count + more) next
 
--- and then one was refused
+-- the same, and then a clean fails
 abbrev pub IsStoppedOn : {D : Type 0} → (D → View) → (D → ℕ) → State D → ℕ → Fault → State D → Type 0
 IsStoppedOn {D} view failures cur more fault next =
     (old : State D) (count : ℕ) → AreCleaned view failures old count cur → AreStopped view failures old next (count + more) fault

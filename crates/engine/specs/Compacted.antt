@@ -1,4 +1,4 @@
--- What compacting makes of a tree and of a store, and the tables on the way.
+-- The effect of compaction on a tree and on a store, and the tables of the intermediate steps.
 use Rattle.std.specs.Prelude.{◌≡◌, ℕ, Bool, true, false, if◌then◌else◌, List, [], Some, None}
 use Rattle.std.specs.Map.{keys_of}
 use Rattle.std.specs.declared.alloc.Global.{Global}
@@ -20,7 +20,7 @@ use Rattle.engine.specs.Copies.{puts_of}
 
 -- ---- a compacted store
 
--- the tree of a new store, where the log has an outdated page of each pid of which it had anything
+-- the tree of a new store, with the log state `Old` for each pid of which the log had anything
 abbrev pub outdated_tree : Tree → Tree
 outdated_tree t = record { pages = first_tree.pages; root = first_tree.root; height = first_tree.height; logged = outdate_all (keys_of t.logged) t.logged }
 
@@ -32,24 +32,24 @@ all_puts t = puts_of (contents t)
 abbrev pub compacted : Settings → Tree → Tree
 compacted s t = planned_tree s (outdated_tree t) (all_puts t)
 
--- a store holds what another one held, and its tree is the compacted tree of that one
+-- a store has the contents of another one, and its tree is the compacted tree of that store
 pub record IsCompacted (s : Settings) (old now : Store) : Type 0 where
   pub holds : contents now.tree ≡ contents old.tree
   pub planned : now ≡ with_tree old (compacted s old.tree)
 
--- why a store isn't compacted: memory was refused, or the compacted tree would have too many levels
+-- why a store is not compacted: out of memory, or the compacted tree would have too many levels
 abbrev pub IsCompactFault : Settings → Tree → Fault → Type 0
 IsCompactFault s t fault = IsLaterFault s (outdated_tree t) (all_puts t) fault
 
 -- ---- the tables on the way to the outdated tree
 
--- the log has something of the page id
+-- the log contains a page with this page id
 abbrev pub is_logged : Logged → Bool
 is_logged No = false
 is_logged Old = true
 is_logged (Upto k) = true
 
--- a leaf that holds nothing
+-- an empty leaf
 abbrev pub no_pairs : PageOfKind
 no_pairs = Leaf (bare [] [])
 
@@ -57,7 +57,7 @@ no_pairs = Leaf (bare [] [])
 abbrev pub HasLeavesAt : List ℕ → Mapping PageOfKind → Type 0
 HasLeavesAt pids t = (q : ℕ) → place_of t q ≡ (if is_among q pids then Some (Some no_pairs) else None)
 
--- of a table with such leaves, all of which the log had, those of some page ids are freed
+-- a table with such leaves, all of which the log had, after the leaves of some page ids were freed
 pub record AreFreed (pids gone : List ℕ) (t : Mapping PageOfKind) : Type 0 where
   pub place : (q : ℕ) → place_of t q ≡ (if is_among q gone then None else if is_among q pids then Some (Some no_pairs) else None)
   pub logged : (q : ℕ) → listed_at t.logged q ≡ (if is_among q pids then Some (if is_among q gone then Old else Upto (depth_counted no_pairs)) else None)

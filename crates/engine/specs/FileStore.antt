@@ -1,4 +1,4 @@
--- What the opening of the store of a file answers.
+-- The results of opening the store in a file.
 use Rattle.std.specs.Prelude.{◌≡◌, ◌⊎◌, ⊤, ℕ, false, true, Result, Ok, Err, MatchResult, replicate}
 use Rattle.keys.specs.Bytes.{Bytes}
 use Rattle.keys.specs.declared.fault.Fault.{Fault}
@@ -20,12 +20,12 @@ abbrev pub disk_found : {D : Type 0} → Found D → D
 disk_found (found.Store x) = x.disk
 disk_found (found.Nothing disk) = disk
 
--- if a store was found on the disk, this is true of it
+-- if a store was found on the disk, this holds for it
 abbrev pub IfStoreFound : {D : Type 0} → (State D → Type 0) → Found D → Type 0
 IfStoreFound P (found.Store x) = P x
 IfStoreFound P (found.Nothing disk) = ⊤
 
--- of a disk with these bytes their store was found, or that they are those of an unfinished one
+-- what was found on a disk with these bytes: their store, or that they are those of an unfinished one
 abbrev pub IsFoundIn : {D : Type 0} → Bytes → Found D → Type 0
 IsFoundIn file (found.Store x) = store_of_disk file ≡ Ok (x.settings, x.store)
 IsFoundIn file (found.Nothing disk) = is_unfinished file ≡ true
@@ -34,7 +34,8 @@ IsFoundIn file (found.Nothing disk) = is_unfinished file ≡ true
 abbrev pub IsFaultIn : Bytes → Fault → Type 0
 IsFaultIn file fault = (is_unfinished file ≡ false) × (store_of_disk file ≡ Err fault)
 
--- the store in these bytes, that they are of an unfinished one, exactly their fault, or a late one, of a disk on which `old` calls had failed
+-- what was found: the store of these bytes, or that they are those of an unfinished one; or exactly their fault, or out of memory or a failed disk
+-- call, for a disk on which `old` calls had failed
 abbrev pub IsFound : {D : Type 0} → (D → ℕ) → Bytes → ℕ → Result (Found D) (Fault × D) → Type 0
 IsFound failed file old result = MatchResult result (IsFoundIn file) (λ e. IsFaultIn file e.0 ⊎ IsLate old (failed e.1) e.0)
 
@@ -47,11 +48,11 @@ abbrev pub IsStoreOfFile : {D : Type 0} → Settings → Bytes → State D → T
 IsStoreOfFile settings file x =
     ((is_unfinished file ≡ true) × IsNewStore settings x) ⊎ ((is_unfinished file ≡ false) × (store_of_disk file ≡ Ok (x.settings, x.store)))
 
--- the bytes of a disk on which a store was made that had zeros alone, in the length that the store needs
+-- the bytes of a disk of zeros, of the length that the store needs, after a store was created on it
 abbrev pub made_on_zeros : Settings → Bytes
 made_on_zeros settings = disk_of_new settings (replicate (disk_size settings) 0)
 
--- why a file with these bytes has no store: another lock, a reason of the system, no memory, or their fault
+-- why no store was opened from a file with these bytes: another lock, a failed call, out of memory, or their fault
 abbrev pub IsFaultOfFile : Bytes → OpenFault → Type 0
 IsFaultOfFile file open_fault.Locked = ⊤
 IsFaultOfFile file (open_fault.File reason) = ⊤

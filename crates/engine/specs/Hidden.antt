@@ -1,4 +1,4 @@
--- A disk on which a store is made out of sight: its first byte is that of a store only at the end.
+-- A disk on which a store is created so that no reader finds it before it is complete: only at the end its first byte becomes that of a store.
 use Rattle.std.specs.Prelude.{◌≡◌, ◌⊎◌, ℕ, Bool, nat_eq, ◌==◌, ◌||◌, if◌then◌else◌, [], ◌∷◌, take, slice_index, is_some, Err}
 use Rattle.std.specs.List.{list_all}
 use Rattle.keys.specs.Bytes.{Bytes}
@@ -11,16 +11,16 @@ use Rattle.flush_log.specs.SettingsBlock.{read_settings, settings_block_size, st
 abbrev pub store_byte : ℕ
 store_byte = 66
 
--- a byte, where 0 and the first byte of a settings block are exchanged
+-- the byte after 0 and the first byte of a settings block were exchanged
 abbrev pub exchanged_byte : ℕ → ℕ
 exchanged_byte b = if nat_eq b 0 then store_byte else if nat_eq b store_byte then 0 else b
 
--- bytes of which the first is exchanged so
+-- bytes whose first byte is exchanged in this way
 abbrev pub exchanged : Bytes → Bytes
 exchanged [] = []
 exchanged (b ∷ bytes) = exchanged_byte b ∷ bytes
 
--- a disk as it is seen if its first byte is exchanged in each read and each write
+-- the view of a disk whose first byte is exchanged in each read and each write
 abbrev pub exchanged_view : View → View
 exchanged_view v = record {
   is_honest = v.is_honest;
@@ -35,31 +35,31 @@ exchanged_view v = record {
 abbrev pub HoldsNoStore : Bytes → Type 0
 HoldsNoStore c = store_settings c ≡ Err NotAStore
 
--- bytes whose first is 0, and of which all but the first two are those of a file
+-- bytes whose first byte is 0, and which agree with a file except for the first two bytes
 pub record IsCleared (file c : Bytes) : Type 0 where
   pub first : slice_index c 0 ≡ 0
   pub same : AgreeAt (IsBeside 0 2) file c
 
--- what a crash may leave while a disk with these bytes is made one that holds no store: those bytes, or no store
+-- what a crash may leave while the store on a disk with these bytes is made unreadable: those bytes, or no store
 abbrev pub IsLeftHiding : Bytes → Bytes → Type 0
 IsLeftHiding file c = (c ≡ file) ⊎ HoldsNoStore c
 
--- the bytes of a disk after its first byte was made that of a store
+-- the bytes of a disk after its first byte was set to that of a store
 abbrev pub revealed : Bytes → Bytes
 revealed file = overlay file 0 (store_byte ∷ [])
 
--- what a crash may leave meanwhile: no store, or those bytes
+-- what a crash may leave during that write: no store, or those bytes
 abbrev pub IsLeftRevealing : Bytes → Bytes → Type 0
 IsLeftRevealing file c = HoldsNoStore c ⊎ (c ≡ revealed file)
 
--- zeros alone, or no bytes
+-- only zeros, or no bytes
 abbrev pub are_zeros : Bytes → Bool
 are_zeros bytes = list_all (λ b. b == 0) bytes
 
--- bytes that begin with a settings block, but for its first byte, which is still 0
+-- bytes that begin with a settings block whose first byte is still 0
 abbrev pub hides_block : Bytes → Bool
 hides_block file = is_some (read_settings (take settings_block_size (exchanged file)))
 
--- bytes that an attempt to make a store leaves if it does not end: a hidden settings block with anything after it, zeros alone, or no bytes
+-- bytes that an interrupted attempt to create a store leaves: a hidden settings block with anything after it, only zeros, or no bytes
 abbrev pub is_unfinished : Bytes → Bool
 is_unfinished file = hides_block file || are_zeros file

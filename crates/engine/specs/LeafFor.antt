@@ -1,4 +1,4 @@
--- The leaf in whose range a key is.
+-- The leaf whose range contains a key.
 use Rattle.std.specs.Prelude.{◌≡◌, ℕ, Some}
 use Rattle.keys.specs.Bytes.{Bytes}
 use Rattle.keys.specs.OrderedMap.{value_at}

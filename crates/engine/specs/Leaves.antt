@@ -33,21 +33,21 @@ AreRoutesFor t cs rs =
 abbrev pub route_pids : List Route → List ℕ
 route_pids rs = map (λ r. r.pid) rs
 
--- these pids have leaves at home, each another
+-- these distinct pids have leaves in the table
 abbrev pub AreLeavesHome : Mapping PageOfKind → Bytes → Type 0
 AreLeavesHome t pids = AllByRecursion (λ pid. IsLeafAt (page_of t pid)) pids × Distinct pids
 
--- these routes go to leaves that are at home, each to another, and their places are places of the batch
+-- these routes go to distinct leaves in the table, and their places are places of the batch
 pub record AreLeafRoutes (t : Mapping PageOfKind) (cs : List (Command Global)) (rs : List Route) : Type 0 where
   pub home : AllByRecursion (λ pid. IsLeafAt (page_of t pid)) (route_pids rs)
   pub distinct : Distinct (route_pids rs)
   pub places : AllByRecursion (λ r. ArePlacesOf cs r.places) rs
 
--- what a leaf's job holds
+-- the input of a leaf's job
 abbrev pub leaf_held : Mapping PageOfKind → Route → LeafHeld
 leaf_held t r = record { page = page_or_none (page_of t r.pid); route = r }
 
--- what is made of the leaves of these routes
+-- the outputs for the leaves of these routes
 abbrev pub leaves_made : Settings → List (Command Global) → Mapping PageOfKind → List Route → List LeafMade
 leaves_made s cs t rs = map (λ r. leaf_made s cs (leaf_held t r)) rs
 
@@ -61,11 +61,11 @@ answers ms = flat (map (λ m. m.pieces) ms)
 abbrev pub is_written : List (Command Global) → Route → Bool
 is_written cs r = not (is_only_read cs r)
 
--- of the leaves that commands go to those that may be changed
+-- the routes to leaves that may be changed
 abbrev pub written_routes : List (Command Global) → List Route → List Route
 written_routes cs rs = filter (is_written cs) rs
 
--- leaves that were worked, without their answers
+-- the updates of leaves without their answers
 abbrev pub without_answers : LeafUpdate → LeafUpdate
 without_answers d = record { held = d.held; made = record { updated = d.made.updated; pieces = [] } }
 

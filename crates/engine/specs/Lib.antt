@@ -12,6 +12,7 @@ pub mod Hidden
 pub mod Late
 pub mod LeafFor
 pub mod Leaves
+pub mod OneStep
 pub mod OnlyRoute
 pub mod Opened
 pub mod Pending

@@ -9,26 +9,26 @@ use Rattle.keys.specs.declared.fault.Fault.{Fault}
 use Rattle.keys.specs.declared.fault.Fault.TheVariants.{KeyTooLong, ValueTooLong, BatchTooLong}
 pub use Rattle.crew.specs.Crew.{is_crew}
 
--- what is wrong with a key of the command at this place
+-- the fault of a key of the command at this place, if it has one
 abbrev pub key_fault : Settings → ℕ → Bytes → Option Fault
 key_fault s place k = if nat_lt s.max_key (length k) then Some (KeyTooLong place) else None
 
--- what is wrong with a value of the command at this place
+-- the fault of a value of the command at this place, if it has one
 abbrev pub value_fault : Settings → ℕ → Bytes → Option Fault
 value_fault s place v = if nat_lt s.max_value (length v) then Some (ValueTooLong place) else None
 
--- what is wrong with the upper bound of the scan or wipe at this place
+-- the fault of the upper bound of the scan or wipe at this place, if it has one
 abbrev pub bound_fault : Settings → ℕ → Option Bytes → Option Fault
 bound_fault s place None = None
 bound_fault s place (Some hi) = key_fault s place hi
 
--- what is wrong with a deed on a span at this place: its key comes before its value, and a lower bound before an upper one
+-- the fault of an access to a span at this place: a key is checked before a value, and a lower bound before an upper one
 abbrev pub deed_fault : Settings → ℕ → Span → Access → Option Fault
 deed_fault s place (One k) (Gives v) = option_or (key_fault s place k) (value_fault s place v)
 deed_fault s place (One k) deed = key_fault s place k
 deed_fault s place (Range lo hi) deed = option_or (key_fault s place lo) (bound_fault s place hi)
 
--- what is wrong with the command at this place
+-- the fault of the command at this place, if it has one
 abbrev pub fault_at : {A : Type 0} → Settings → ℕ → Command A → Option Fault
 fault_at s place c = deed_fault s place (span_of c) (access_of c)
 

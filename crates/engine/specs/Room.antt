@@ -31,7 +31,7 @@ room_in s n = n * (s.seg_size - segment_header_size)
 abbrev pub room_in_use : Settings → Store → ℕ
 room_in_use s st = room_in s (segments_in_use s st)
 
--- whether the bytes in use that do not live are worth a row of cleans: a segment, and a sixteenth of the room in use
+-- whether the dead bytes are worth a row of cleans: at least a segment, and at least a sixteenth of the room in use
 abbrev pub is_worth : Settings → Store → ℕ → Bool
 is_worth s st live = nat_le (max s.seg_size (room_in_use s st / 16)) (room_in_use s st - live)
 
@@ -39,8 +39,8 @@ is_worth s st live = nat_le (max s.seg_size (room_in_use s st / 16)) (room_in_us
 abbrev pub flush_bytes : Store → ℕ
 flush_bytes st = sum_by (λ f. length (bytes_of f)) (flush_frames st.version st.tree)
 
--- how many bytes of frames a segment holds, if its end, where the next frame did not fit, has 32 for each entry of a page, but at most an eighth
--- of the segment
+-- how many bytes of frames a segment has room for, if its unused end, where the next frame did not fit, has 32 bytes for each entry of a page, but at
+-- most an eighth of the segment
 abbrev pub room_of_frames : Settings → ℕ
 room_of_frames s = s.seg_size - segment_header_size - min (32 * s.fan) (s.seg_size / 8)
 
@@ -48,11 +48,11 @@ room_of_frames s = s.seg_size - segment_header_size - min (32 * s.fan) (s.seg_si
 abbrev pub most_live : Settings → ℕ
 most_live s = (s.segments - 1) * room_of_frames s
 
--- whether what lives and what a flush writes exceed that
+-- whether the live bytes and the bytes that a flush writes exceed that
 abbrev pub is_overfull : Settings → Store → ℕ → Bool
 is_overfull s st live = nat_lt (most_live s) (live + flush_bytes st)
 
--- how many bytes of a store's log in these bytes live, if the log is sound
+-- the number of live bytes in a store's log in these bytes, if the log is sound
 abbrev pub live_known : Settings → Store → Bytes → Option ℕ
 live_known s st file = live_in (record { settings = s; version = st.version }) (ends_of st) file
 

@@ -1,4 +1,4 @@
--- What a disk of snapshots is. Its bytes are one number, which encodes the settings and the pairs of the last snapshot, and which no call reads or
+-- The disk of snapshots. Its contents are one number, which encodes the settings and the pairs of the last snapshot, and which no call reads or
 -- writes.
 use Rattle.std.specs.Prelude.{◌≡◌, ℕ, zero, suc, ◌+◌, ◌≤◌, true, length, List, [], ◌∷◌, slice_get, Option, Some, None}
 use Rattle.keys.specs.Bytes.{Bytes, Pairs}
@@ -85,7 +85,7 @@ snapshot_of bytes = None
 
 -- ---- the disk
 
--- what it holds after the first n snapshots
+-- the last of the first n snapshots
 abbrev pub held_after : List Held → ℕ → Option Held
 held_after snapshots zero = None
 held_after snapshots (suc n) = slice_get snapshots n
@@ -118,7 +118,7 @@ view_of d = view_after (bytes_after d.snapshots) (length d.snapshots)
 abbrev pub bytes_with : Held → Bytes
 bytes_with held = number_of (Some held) ∷ []
 
--- the pairs that are opened
+-- the pairs of a snapshot
 abbrev pub pairs_held : Option Held → Option (Pairs Bytes)
 pairs_held None = None
 pairs_held (Some held) = Some held.1

@@ -1,4 +1,4 @@
--- What is true of the tree of every store.
+-- The invariant of the tree of every store.
 use Rattle.std.specs.Prelude.{◌≡◌, ◌≤◌, None}
 use Rattle.keys.specs.Limits.{first_bad_field}
 use Rattle.keys.specs.declared.settings.Settings.{Settings}
@@ -6,15 +6,14 @@ use Rattle.mapping.specs.Tree.{Tree, most_levels}
 use Rattle.mapping.specs.Proper.{AreLogsTrue, IsProper}
 use Rattle.mapping.specs.TreeInMemory.{TreeInMemory, AreAllHome, tree_of}
 
--- the settings are within their ranges, the tree is proper, what its log has is true, and it has no more levels than a tree may
--- have
+-- the settings are valid, the tree is proper, its log states are true, and it has no more levels than a tree may have
 pub record IsSoundTree (s : Settings) (t : Tree) : Type 0 where
   pub settings : first_bad_field s ≡ None
   pub proper : IsProper s t
   pub logs : AreLogsTrue t
   pub height : t.height ≤ most_levels
 
--- so in memory, where all pages are at home
+-- the same in memory, with no page checked out
 pub record IsSoundInMemory (s : Settings) (t : TreeInMemory) : Type 0 where
   pub home : AreAllHome t
   pub sound : IsSoundTree s (tree_of t)

@@ -1,4 +1,4 @@
--- What a store on a disk holds, and what is true of every one.
+-- The state of a store on a disk, and the invariant of every store.
 use Rattle.std.specs.Prelude.{◌≡◌, ◌≤◌, Bool, false, IsTrue}
 use Rattle.keys.specs.declared.settings.Settings.{Settings}
 use Rattle.keys.specs.declared.version.Version.{Version}
@@ -9,15 +9,15 @@ use Rattle.flush_log.specs.Segments.{disk_size}
 use Rattle.flush_log.specs.declared.slot.LogEnds.{LogEnds}
 use Rattle.recovery.specs.InStep.{IsStore, IsInStep}
 
--- the settings, what the definitions call a store, the disk, and whether a call of the disk has failed for a store that wrote
+-- the settings, the store of the definitions, the disk, and whether a call of the disk has failed in a call that writes
 pub record State (D : Type 0) : Type 0 where
   pub settings : Settings
   pub store : Store
   pub disk : D
   pub has_failed : Bool
 
--- What is true of every store, where disks are seen so: it is one as every store is, its disk has room for all segments, and on a
--- disk that does as it should, as long as no call has failed, it is in step with what a read gives.
+-- The invariant of every store, given the view of disks: it satisfies the invariant of stores, its disk has room for all segments, and on an honest
+-- disk, as long as no call has failed, it is in step with the disk's readable contents.
 pub record IsSound {D : Type 0} (view : D → View) (x : State D) : Type 0 where
   pub is : IsStore x.settings x.store
   pub room : disk_size x.settings ≤ (view x.disk).size
@@ -27,11 +27,11 @@ pub record IsSound {D : Type 0} (view : D → View) (x : State D) : Type 0 where
 abbrev pub store_in : TreeInMemory → LogEnds → Version → Store
 store_in t log version = record { tree = tree_of t; head = log.head; tail = log.tail; sequence = log.sequence; version = version }
 
--- and with all else that a store has in memory
+-- the state of a store, from all its parts in memory
 abbrev pub state_of : {D : Type 0} → Settings → TreeInMemory → LogEnds → Version → D → Bool → State D
 state_of s t log version disk has_failed = record { settings = s; store = store_in t log version; disk = disk; has_failed = has_failed }
 
--- and sound, where all pages are at home
+-- a sound store in memory, with no page checked out
 pub record IsSoundStore {D : Type 0} (view : D → View) (s : Settings) (t : TreeInMemory) (log : LogEnds) (version : Version) (disk : D) (has_failed : Bool) : Type 0 where
   pub home : AreAllHome t
   pub sound : IsSound view (state_of s t log version disk has_failed)

@@ -34,18 +34,18 @@ pub data Answer (A : Type 0) : Type 0 where
   Cleaned : ℕ → Answer A
   Upgraded : ℕ → Answer A
 
--- what batches do to a tree: why one is refused, or else the tree after it
+-- the effect of batches on a tree: why one is refused, or else the tree after it
 pub record Batching (A : Type 0) : Type 0 where
   pub refusal : Tree → List (Command A) → Option Fault
   pub planned : Tree → List (Command A) → Tree
 
--- what they do under these settings
+-- their effect under these settings
 abbrev pub batching : {A : Type 0} → Settings → Batching A
 batching s = record { refusal = λ t cs. refusal_by s t cs; planned = λ t cs. planned_tree s t cs }
 
--- ---- what they leave
+-- ---- their effects
 
--- what a step leaves of a store and of the bytes of its disk, after its answer; or why it is refused
+-- the answer to a step, with the store and the bytes of its disk afterwards; or why it is refused
 abbrev pub Stepped : Type 0 → Type 0
 Stepped A = Result (Answer A × (Store × Bytes)) Fault
 
@@ -60,7 +60,7 @@ after_step b s st file Flush = and_then (after_flush s st file) (λ p. Ok (Flush
 after_step b s st file Clean = and_then (after_clean s st file) (λ p. Ok (Cleaned p.0.head, p))
 after_step b s st file Upgrade = and_then (after_upgrade s st file) (λ p. Ok (Upgraded p.0.sequence, p))
 
--- the answers to steps up to the first that is refused, what they leave, and why that one was refused
+-- the answers to steps up to the first one that is refused, the store and the bytes afterwards, and why that step was refused
 pub record Played (A : Type 0) : Type 0 where
   pub answers : List (Answer A)
   pub store : Store
@@ -71,7 +71,7 @@ pub record Played (A : Type 0) : Type 0 where
 abbrev pub after_answer : {A : Type 0} → Answer A → Played A → Played A
 after_answer a p = record { answers = a ∷ p.answers; store = p.store; bytes = p.bytes; fault = p.fault }
 
--- what is played on from what a step left; where it was refused, nothing is, and the store and the bytes stay
+-- a play that continues after a step; if the step was refused, nothing more is played, and the store and the bytes are unchanged
 abbrev pub played_on : {A : Type 0} → Store → Bytes → Stepped A → (Store → Bytes → Played A) → Played A
 played_on st file (Ok p) next = after_answer p.0 (next p.1.0 p.1.1)
 played_on st file (Err fault) next = record { answers = []; store = st; bytes = file; fault = Some fault }
@@ -81,16 +81,16 @@ abbrev pub plays : {A : Type 0} → Batching A → Settings → Store → Bytes 
 plays b s st file [] = record { answers = []; store = st; bytes = file; fault = None }
 plays b s st file (x ∷ xs) = played_on st file (after_step b s st file x) (λ now bytes. plays b s now bytes xs)
 
--- and what is played after them: nothing, where one of them was refused
+-- a play followed by another one, which does not count if a step of the first was refused
 abbrev pub with_later : {A : Type 0} → Option Fault → Played A → Played A → Played A
 with_later None p q = record { answers = p.answers ++ q.answers; store = q.store; bytes = q.bytes; fault = q.fault }
 with_later (Some fault) p q = p
 
--- more steps, played on from what is left
+-- more steps, played after a play
 abbrev pub plays_further : {A : Type 0} → Batching A → Settings → Played A → List (Step A) → Played A
 plays_further b s p xs = with_later p.fault p (plays b s p.store p.bytes xs)
 
--- ---- what they come to
+-- ---- their combined effect
 
 -- the batches among steps, and the replies among answers
 abbrev pub batches_among : {A : Type 0} → List (Step A) → List (List (Command A))
@@ -115,7 +115,7 @@ last_written b written now (Flush ∷ xs) = last_written b (flushed now) (flushe
 last_written b written now (Clean ∷ xs) = last_written b written now xs
 last_written b written now (Upgrade ∷ xs) = last_written b (flushed now) (flushed now) xs
 
--- ---- what is asked of their numbers
+-- ---- the requirement on their numbers
 
 -- a step's numbers have 64 bits, as all have in memory: those of a flush's or an upgrade's frames, and the root's page id after a batch
 abbrev pub NumbersFit : {A : Type 0} → Batching A → Settings → Store → Step A → Type 0
@@ -124,7 +124,7 @@ NumbersFit b s st Flush = HasFrames s (texts.Flush st.version) st.tree
 NumbersFit b s st Clean = ⊤
 NumbersFit b s st Upgrade = HasFrames s texts.Upgrade st.tree
 
--- what is so of a step, and of those after it; nothing of one that is refused
+-- a property of a step, and of the steps after it; nothing if the step is refused
 abbrev pub here_and_on : {A : Type 0} → Stepped A → Type 0 → (Store → Bytes → Type 0) → Type 0
 here_and_on (Ok p) here next = here × next p.1.0 p.1.1
 here_and_on (Err fault) here next = ⊤
@@ -136,25 +136,25 @@ AllNumbersFit b s st file (x ∷ xs) = here_and_on (after_step b s st file x) (N
 
 -- ---- what a crash leaves
 
--- the calls of the disk by which a step is done that isn't refused
+-- the disk calls of a step that is not refused
 abbrev pub step_calls : {A : Type 0} → Settings → Store → Bytes → Step A → List Call
 step_calls s st file (Batch cs) = []
 step_calls s st file Flush = flush_calls s st file
 step_calls s st file Clean = clean_calls s st file
 step_calls s st file Upgrade = upgrade_calls s st file
 
--- what a crash leaves during these calls, or later; a step that is refused makes none
+-- what a crash leaves during these calls, or later; a step that is refused makes no calls
 abbrev pub left_on : {A : Type 0} → Stepped A → List Call → Bytes → Bytes → (Store → Bytes → Type 0) → Type 0
 left_on (Ok p) calls file c next = LeftDuring calls file c ⊎ next p.1.0 p.1.1
 left_on (Err fault) calls file c next = c ≡ file
 
--- what a crash at some moment of a play may leave of a settled disk: what one during the calls of some step may
+-- what a crash at some moment of a play may leave of a synced disk: an outcome of a crash during the calls of some step
 abbrev pub LeftInPlay : {A : Type 0} → Batching A → Settings → Store → Bytes → List (Step A) → Bytes → Type 0
 LeftInPlay b s st file [] c = c ≡ file
 LeftInPlay b s st file (x ∷ xs) c =
     left_on (after_step b s st file x) (step_calls s st file x) file c (λ now bytes. LeftInPlay b s now bytes xs c)
 
--- a disk stands for what its bytes stand for once the first n of these steps are played, where no fewer of them are
+-- the disk encodes the same store as after the first n of these steps, where n is at most the number of steps that are played
 abbrev pub StandsAfterSome : {A : Type 0} → Batching A → Settings → Store → Bytes → List (Step A) → Bytes → Type 0
 StandsAfterSome b s st file steps c =
     (n : ℕ) × (n ≤ length (plays b s st file steps).answers)
@@ -162,16 +162,15 @@ StandsAfterSome b s st file steps c =
 
 -- ---- what is promised of them
 
--- a batch that isn't refused does to what a store holds what its commands do, and leaves the store in step with its disk
+-- a batch that is not refused changes the contents of a store as its commands do, and leaves the store in step with its disk
 abbrev pub KeepsStores : {A : Type 0} → Settings → Batching A → Type 0
 KeepsStores {A} s b = (st : Store) (file : Bytes) (cs : List (Command A)) → IsStoreOf s st file → b.refusal st.tree cs ≡ None →
     (b.planned st.tree cs).root < 2 ^ 64 →
     (contents (b.planned st.tree cs) ≡ map_after_all (contents st.tree) cs) × IsStoreOf s (with_tree st (b.planned st.tree cs)) file
 
--- Of steps that were played, as far as they were, on a store with this tree, whose disk stood for one with the tree that is
--- written: the replies are those of an ordered map that takes all their commands one by one, and the store holds what that map
--- holds; the disk stands for the tree of the last flush or upgrade, or else for the one that was written, with the head, the tail,
--- the number and the version that there are now.
+-- The result of playing steps on a store with this tree, whose disk encoded a store with the tree `written`: the replies are those of an ordered map
+-- that executes all the commands one by one, and the store has the contents of that map; the disk encodes the tree of the last flush or upgrade, or
+-- if there was none, the tree `written`, with the present head, tail, number and version.
 pub record ArePlayed {A : Type 0} (b : Batching A) (s : Settings) (now written : Tree) (steps : List (Step A)) (p : Played A) : Type 0 where
   pub replies : flat (replies_among p.answers) ≡ replies_to (contents now) (flat (batches_among (take (length p.answers) steps)))
   pub holds : contents p.store.tree ≡ map_after_all (contents now) (flat (batches_among (take (length p.answers) steps)))

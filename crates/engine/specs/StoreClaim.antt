@@ -1,4 +1,4 @@
--- What the trait `OrderedStore` says of a store of pages: which pairs its disk's bytes hold, and what its calls make of its state.
+-- The trait `OrderedStore` for a store of pages: the pairs that its disk's bytes encode, and the effect of its calls on its state.
 use Rattle.std.specs.Prelude.{Option, Some, None, Result, Ok, Err}
 use Rattle.keys.specs.Bytes.{Bytes}
 use Rattle.keys.specs.declared.fault.Fault.{Fault}
@@ -16,11 +16,11 @@ abbrev pub held_in : Result (Settings × Store) Fault → Option Held
 held_in (Ok p) = Some (p.0, contents p.1.tree)
 held_in (Err fault) = None
 
--- the settings and the pairs of the store that these bytes hold, if they hold one
+-- the settings and the pairs of the store that these bytes encode, if they encode one
 abbrev pub recovered_from : Bytes → Option Held
 recovered_from file = held_in (store_of_disk file)
 
--- what was returned, if it was no fault
+-- the value of the result, if it is no fault
 abbrev pub if_ok : {X : Type 0} → Result X Fault → Option X
 if_ok (Ok x) = Some x
 if_ok (Err fault) = None
@@ -34,7 +34,7 @@ abbrev pub store_read : Result (Settings × Store) Fault → Option Store
 store_read (Ok p) = Some p.1
 store_read (Err fault) = None
 
--- the store that these bytes hold, if they hold one
+-- the store that these bytes encode, if they encode one
 abbrev pub opened_to : Bytes → Option Store
 opened_to file = store_read (store_of_disk file)
 

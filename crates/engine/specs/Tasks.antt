@@ -17,22 +17,22 @@ use Rattle.engine.specs.declared.leaf_tasks.LeafTask.TheVariants.{Read, Change}
 use Rattle.engine.specs.declared.leaf_tasks.TaskDone.{TaskDone}
 use Rattle.engine.specs.declared.leaf_tasks.TaskDone.TheVariants.{Read as WasRead, Changed as WasChanged}
 
--- what a task holds: of a leaf that is only read the places of its commands, of another the leaf too
+-- the input of a task: for a leaf that is only read the places of its commands, for another leaf also the leaf
 pub data TaskHeld : Type 0 where
   Reads : Route → TaskHeld
   Changes : LeafHeld → TaskHeld
 
--- what is made of it: answers, and of a leaf that may be changed also what became of it
+-- the output of a task: answers, and for a leaf that may be changed also the leaf afterwards
 pub data TaskMade : Type 0 where
   Answered : List (Piece Global) → TaskMade
   Changed : LeafMade → TaskMade
 
--- what may be worked
+-- a valid input
 abbrev pub MayBeWorked : TreeInMemory → List (Command Global) → TaskHeld → Type 0
 MayBeWorked t cs (Reads r) = IsRouteToRead t cs r
 MayBeWorked t cs (Changes h) = IsLeafHeld cs h
 
--- what the work makes of it, where the tree has the leaves that are only read
+-- the output as a function of the input, if the tree has the leaves that are only read
 abbrev pub task_made : TreeInMemory → Settings → List (Command Global) → TaskHeld → TaskMade
 task_made t s cs (Reads r) = Answered (route_answers t cs r)
 task_made t s cs (Changes h) = Changed (leaf_made s cs h)
@@ -41,27 +41,27 @@ task_made t s cs (Changes h) = Changed (leaf_made s cs h)
 abbrev pub task_for : Mapping PageOfKind → List (Command Global) → Route → TaskHeld
 task_for t cs r = if is_only_read cs r then Reads r else Changes (leaf_held t r)
 
--- what a task of the code holds
+-- the input in a task of the code
 abbrev pub task_held : LeafTask → TaskHeld
 task_held (Read r) = Reads r
 task_held (Change j) = Changes (leaf_held_of j)
 
--- what the task held that this was made of
+-- the input that led to this output
 abbrev pub done_held : TaskDone → TaskHeld
 done_held (WasRead d) = Reads d.route
 done_held (WasChanged d) = Changes d.held
 
--- what was made of it
+-- the output in a result of the code
 abbrev pub done_made : TaskDone → TaskMade
 done_made (WasRead d) = Answered d.pieces
 done_made (WasChanged d) = Changed d.made
 
--- the leaf that a task holds, if it holds one
+-- the leaf of a task, if it has one
 abbrev pub taken_in : TaskHeld → List LeafHeld
 taken_in (Reads r) = []
 taken_in (Changes h) = h ∷ []
 
--- the leaves that tasks hold
+-- the leaves of tasks
 abbrev pub taken_of : List TaskHeld → List LeafHeld
 taken_of hs = flat_map taken_in hs
 

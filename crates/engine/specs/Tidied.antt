@@ -1,4 +1,4 @@
--- What tidying leaves of a store, and why it is refused.
+-- The effect of tidying on a store, and why it fails.
 use Rattle.std.specs.Prelude.{◌≡◌, ◌⊎◌, ℕ, ◌-◌, ◌^◌, min, List, length, Some}
 use Rattle.std.specs.declared.alloc.Global.{Global}
 use Rattle.keys.specs.declared.command.Command.{Command}
@@ -10,7 +10,7 @@ use Rattle.mapping.specs.Tree.{Store, Tree, with_tree}
 use Rattle.engine.specs.Batches.{tree_in_turn}
 use Rattle.engine.specs.Refusal.{refusal}
 
--- a store holds what another one held, and its tree is what some batches leave of that one's, each planned on what the one before it left
+-- a store has the contents of another one, and its tree is that store's tree after some batches, each planned on the tree after the batch before it
 pub record IsTidied (s : Settings) (old now : Store) : Type 0 where
   pub holds : contents now.tree ≡ contents old.tree
   pub batches : List (List (Command Global))
@@ -20,6 +20,6 @@ pub record IsTidied (s : Settings) (old now : Store) : Type 0 where
 abbrev pub counted_pages : Tree → ℕ
 counted_pages t = min (length t.pages) (2 ^ 64 - 1)
 
--- why a store isn't tidied: memory was refused, the tree would be too high, or a batch is refused by its right
+-- why tidying fails: out of memory, too many levels, or a fault of one of its batches
 abbrev pub IsTidyFault : Settings → Fault → Type 0
 IsTidyFault s fault = (fault ≡ NoMemory) ⊎ (fault ≡ Spent) ⊎ ((cs : List (Command Global)) × (refusal s cs ≡ Some fault))

@@ -1,13 +1,16 @@
--- Steps of a play that were all done: what they answered, and what they left.
-use Rattle.std.specs.Prelude.{◌≡◌, ℕ, Bool, IsTrue, true, false, List, [], ◌∷◌}
+-- Steps of a play: what those that were all done answered and left, and what those before a refused one did.
+use Rattle.std.specs.Prelude.{◌≡◌, ◌≢◌, ℕ, Bool, IsTrue, true, false, List, [], ◌∷◌, map, take}
 use Rattle.std.specs.declared.alloc.Global.{Global}
 use Rattle.keys.specs.Bytes.{Bytes}
+use Rattle.keys.specs.declared.fault.Fault.{Fault}
+use Rattle.keys.specs.declared.fault.Fault.TheVariants.{Device}
 use Rattle.keys.specs.declared.settings.Settings.{Settings}
 use Rattle.mapping.specs.Tree.{Store}
 use Rattle.flush_log.specs.Disk.{View, IsSynced, Kept, LeavesOnly}
-use Rattle.engine.specs.Plays.{IsPlayed, IsPlayedOn, IsStepDone}
+use Rattle.engine.specs.Plays.{IsPlayed, IsPlayedOn, IsStepDone, IsLeftAfter, step_of, tried}
 use Rattle.engine.specs.State.{State, IsSound}
 use Rattle.engine.specs.Steps.{Step, StandsAfterSome, AllNumbersFit, batching, plays}
+use Rattle.engine.specs.declared.step.Step as code_step
 use Rattle.engine.specs.declared.step.Answer as code_answer
 
 -- these steps were done one after the other, as `IsPlayed` says, and left these bytes last
@@ -34,3 +37,23 @@ pub record IsTurn {D : Type 0} (view : D → View) (failures : D → ℕ) (old :
   pub is_synced : IsSynced (view old.disk) → IsSynced (view now.disk)
   pub crash : old.has_failed ≡ false → IsSynced (view old.disk)
       → LeavesOnly (view old.disk) (view now.disk) (StandsAfterSome (batching old.settings) old.settings old.store (view old.disk).seen xs)
+
+-- The step at this place of a play was refused; those before it are done, as a play of them does, and answered so. If a call of the disk failed in
+-- the refused step, the store has failed, and the disk holds the store before that step, or the bytes after it.
+pub record IsStopped {D : Type 0} (view : D → View) (failures : D → ℕ) (old : State D) (xs : List code_step.Step) (place : ℕ) (said : List code_answer.Answer) (fault : Fault) (now : State D) : Type 0 where
+  pub sound : IsSound view now
+  pub rest : (now.settings ≡ old.settings) × Kept (view old.disk) (view now.disk)
+  pub played : IsPlayed (view old.disk).is_honest old.settings old.store (view old.disk).seen (map step_of (take place xs)) said now.store
+  pub exact : IsTrue (view old.disk).is_honest → IsPlayedOn old.settings old.store (view old.disk).seen (map step_of (take place xs)) said now.store
+  -- all that is promised of the steps that are done, unless a call of the disk failed
+  pub turn : fault ≢ Device → IsTurn view failures old (map step_of (take place xs)) said now
+  pub words : IsTrue (view old.disk).is_honest → AllNumbersFit (batching old.settings) old.settings old.store (view old.disk).seen (map step_of (take place xs))
+  pub device : fault ≡ Device → now.has_failed ≡ true
+  -- the numbers of the step in which a call of the disk failed have 64 bits too, and a crash during the play may leave the store after it
+  pub words_reached : IsTrue (view old.disk).is_honest
+      → AllNumbersFit (batching old.settings) old.settings old.store (view old.disk).seen (map step_of (take (tried fault place) xs))
+  pub crash : old.has_failed ≡ false → IsSynced (view old.disk)
+      → LeavesOnly (view old.disk) (view now.disk) (StandsAfterSome (batching old.settings) old.settings old.store (view old.disk).seen (map step_of (take (tried fault place) xs)))
+  -- a crash after the play leaves the store before that step, or after it
+  pub following : old.has_failed ≡ false → IsSynced (view old.disk) → fault ≡ Device → (c : Bytes) → (view now.disk).may_leave c
+      → IsLeftAfter old.settings old.store (view old.disk).seen xs place c

@@ -1,4 +1,5 @@
-//! A batch on a tree: which leaves its commands go to, what these become and answer, and the climb from them to the root.
+//! Executes a batch on a tree: finds the leaves that its commands go to, applies the commands to them, and climbs from
+//! the changed leaves to the root.
 ghost use Rattle.std.specs.Prelude.{◌≡◌, ◌+◌, ◌<◌, ◌≤◌, ℕ, true, [], length, List, IfOk, IsOkAnd, IfErr, OnOk, OnErr, IfSome, map};
 ghost use Rattle.std.specs.List.{list_all};
 ghost use Rattle.std.specs.Map.{keys_of};
@@ -41,8 +42,8 @@ use scan::{Rows, scan_ends};
 use std::alloc::{AllocError, Global};
 use std::thread::Threads;
 
-/// Executes the commands on the tree: the replies, and the tree is the plan's; or, for lack of memory or because the tree would have more
-/// than 64 levels, the tree is as it was.
+/// Executes the commands on the tree, and returns the replies; the tree is then the one of the plan. Fails if
+/// allocation fails or if the tree would have more than 64 levels; the tree is then unchanged.
 pub(crate) fn execute(
     rt: &(impl Threads + Sync),
     crew: Crew,
@@ -86,8 +87,8 @@ pub(crate) fn execute(
     execute_routed(rt, crew, gate, &work, tree, page_runs)
 }
 
-// Returns which leaves the commands go to, or `None` if the scans and wipes would visit too many leaves in vain. A scan goes only to as many
-// leaves as it needs for its rows.
+// Returns which leaves the commands go to, or `None` if the scans and wipes would visit too many leaves in vain. A scan
+// goes only to as many leaves as it needs for its rows.
 fn routes_to_leaves(
     rt: &(impl Threads + Sync),
     crew: Crew,
@@ -137,7 +138,8 @@ fn routes_with_ends<'a>(
     )
 }
 
-// Whether scans and wipes may step over many changes that the batch made to their leaves before. The result affects only the cost.
+// Whether scans and wipes may have to skip many changes that the batch made to their leaves before. The result affects
+// only the cost.
 fn is_costly(commands: &[Command<Global>], page_runs: &[PageRun], pages: usize) -> bool {
     if !commands.iter().any(|command| command.is_ranged()) {
         return false;
@@ -150,7 +152,7 @@ fn is_costly(commands: &[Command<Global>], page_runs: &[PageRun], pages: usize) 
     steps > room
 }
 
-// Returns how many changes the scans and wipes of a leaf step over at most: each of them over one for each command that writes.
+// Returns how many changes the scans and wipes of a leaf skip at most: each of them one for each command that writes.
 fn most_steps(commands: &[Command<Global>], places: &[usize]) -> usize {
     let mut ranged: usize = 0;
     let mut writing: usize = 0;
@@ -164,9 +166,9 @@ fn most_steps(commands: &[Command<Global>], places: &[usize]) -> usize {
     ranged.saturating_mul(writing)
 }
 
-// `execute` for a batch whose scans and wipes would visit many leaves or changes in vain. A map of all pairs answers the commands one after
-// the other. Then commands on one key each, which have the same net run, change the tree. This takes time and memory for each pair of the
-// tree.
+// `execute` for a batch whose scans and wipes would visit many leaves or changes in vain. A map of all pairs executes
+// the commands one after the other. Then commands on one key each, which have the same net run, change the tree. This
+// takes time and memory for each pair of the tree.
 fn execute_by_map(
     rt: &(impl Threads + Sync),
     crew: Crew,
@@ -247,7 +249,7 @@ fn replies_and_points(
     execute_in_turn(alloc, map, commands)
 }
 
-// Returns a map of the tree's pairs, which stay in the tree.
+// Returns a map of the tree's pairs, borrowed from the tree.
 fn map_of<'a>(alloc: Global, tree: &'a Tree<Global>) -> Result<LentMap<'a>, AllocError>
     requires home { AreAllHome tree.now }
     requires height { tree.now.height ≤ most_levels }
@@ -262,7 +264,7 @@ fn map_of<'a>(alloc: Global, tree: &'a Tree<Global>) -> Result<LentMap<'a>, Allo
     Ok(map)
 }
 
-// `execute`, once the commands are routed to their leaves.
+// `execute`, after the commands were routed to their leaves.
 fn execute_routed(
     rt: &(impl Threads + Sync),
     crew: Crew,
@@ -285,7 +287,7 @@ fn execute_routed(
     ensures fault { IfErr result
         (IsLaterFault work.now.settings (tree_of tree.old) work.now.commands.now) }
 {
-    // What the plan of a sound tree is.
+    // Only for the proof.
     the_plan_holds_the_map_after_the_commands::<Global>();
     the_plan_of_a_proper_store_is_proper::<Global>();
     the_log_states_stay_true::<Global>();
@@ -302,7 +304,7 @@ fn execute_routed(
     }
 }
 
-// `execute_routed` for commands that only look: their leaves stay in the tree.
+// `execute_routed` for commands that only read: their leaves stay in the tree.
 fn read_routed(
     rt: &(impl Threads + Sync),
     crew: Crew,
@@ -326,7 +328,7 @@ fn read_routed(
     ensures fault { IfErr result
         (IsLaterFault work.now.settings (tree_of tree.old) work.now.commands.now) }
 {
-    // What the plan of a sound tree is.
+    // Only for the proof.
     the_plan_holds_the_map_after_the_commands::<Global>();
     the_plan_of_a_proper_store_is_proper::<Global>();
     the_log_states_stay_true::<Global>();
@@ -345,14 +347,15 @@ fn read_routed(
     }
 }
 
-// No leaves. It takes no memory.
+// No leaves. Does not allocate.
 fn no_leaves(alloc: Global) -> Vec<LeafDone>
     ensures { result.items ≡ [] }
 {
     Vec::new(alloc)
 }
 
-/// That a sound tree, with as many commands more, has no more pairs than a reply can count. Only for the proof.
+/// Shows that a sound tree, even with one more pair per command, has no more pairs than a reply can count. Only for the
+/// proof.
 pub(crate) fn pairs_can_be_counted(
     settings: &Settings,
     tree: &Tree<Global>,
@@ -365,15 +368,15 @@ pub(crate) fn pairs_can_be_counted(
     let _count = count_of(commands);
 }
 
-// How many commands there are. Only for the proof, which has it as a number of 64 bits.
+// The number of commands, as a number of 64 bits. Only for the proof.
 fn count_of(commands: &[Command<Global>]) -> usize
     ensures { result ≡ length commands.now }
 {
     commands.len()
 }
 
-// The replies, and the climb from these leaves, which were taken and worked. Where either is refused, the tree is as it was, and the leaves
-// come back.
+// Collects the replies, and climbs from these leaves, which were checked out and updated. If either fails, the tree is
+// unchanged and the leaves are returned.
 fn finish(
     rt: &(impl Threads + Sync),
     crew: Crew,
@@ -407,7 +410,7 @@ fn finish(
     }
 }
 
-/// The fault of a climb that is refused.
+/// The fault for a climb that failed.
 pub(crate) fn fault_of(refused: Refused) -> Fault
     ensures { result ≡ fault_by refused }
 {

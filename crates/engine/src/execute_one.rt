@@ -1,4 +1,5 @@
-//! A batch of one command on one key: down to its leaf, worked, and put back. No list is sorted, parted or joined for it.
+//! A batch of one command on one key: one descent to its leaf, which is updated and put back. No list is sorted, split
+//! or merged for it.
 ghost use Rattle.std.specs.Prelude.{◌≡◌, ℕ, ◌+◌, ◌≤◌, ◌<◌, List, ◌∷◌, [], false, length, slice_get, Some, None, IfOk, IfErr, OnOk, OnErr};
 ghost use Rattle.keys.specs.CommandKey.{is_ranged};
 ghost use Rattle.keys.specs.Step.{replies_to, map_after_all};
@@ -35,8 +36,8 @@ use routing::PageRun;
 use std::alloc::{AllocError, Global};
 use std::thread::Threads;
 
-/// Executes a batch of this one command, which is on one key. It does as `execute` does. The gate is called for one piece, as in a round of
-/// one leaf, and then for those of the climb, where the leaf was replaced.
+/// Executes a batch of this one command, which is on one key. Has the effect of `execute`. The gate is called for one
+/// piece, as in a round of one leaf, and if the leaf was replaced, for the pieces of the climb.
 pub(crate) fn execute_one(
     rt: &(impl Threads + Sync),
     crew: Crew,
@@ -60,7 +61,7 @@ pub(crate) fn execute_one(
     ensures fault { IfErr result
         (IsLaterFault work.now.settings (tree_of tree.old) work.now.commands.now) }
 {
-    // What the plan of a sound tree is.
+    // Only for the proof.
     commands_that_come_to_nothing_change_nothing::<Global>();
     the_plan_holds_the_map_after_the_commands::<Global>();
     the_plan_of_a_proper_store_is_proper::<Global>();
@@ -94,7 +95,7 @@ fn leaf_of(tree: &Tree<Global>, command: &Command<Global>) -> Pid
     pid
 }
 
-// The replies, where the command only looks. Its leaf stays in the tree.
+// The replies, if the command only reads. Its leaf stays in the tree.
 fn read_leaf(
     work: &LeafWork<'_>,
     tree: &Tree<Global>,
@@ -118,7 +119,7 @@ fn read_leaf(
     }
 }
 
-// The replies to the commands, which were answered by these pieces.
+// The replies to the commands, from these pieces.
 fn replies_of(
     alloc: Global,
     commands: &[Command<Global>],
@@ -133,8 +134,8 @@ fn replies_of(
     Ok(replies)
 }
 
-// The replies, where the command may change its leaf: that is taken out of the tree, worked and put home. Where it is refused, the tree is
-// as it was.
+// The replies, if the command may change its leaf: the leaf is checked out, updated and put back. If that fails, the
+// tree is unchanged.
 fn change_leaf(
     rt: &(impl Threads + Sync),
     crew: Crew,
@@ -167,8 +168,8 @@ fn change_leaf(
     }
 }
 
-// The replies of the leaf, which was taken out of the tree and worked. It goes back into its place, where no other page has to change with it;
-// else the climb begins at it. Where that is refused, the leaf is back in its place as it was.
+// The replies of the leaf, which was checked out and updated. It is put back into its place if no other page has to
+// change with it; otherwise the climb begins at it. If that fails, the original leaf is back in its place.
 fn bring_home(
     rt: &(impl Threads + Sync),
     crew: Crew,
@@ -211,7 +212,7 @@ fn bring_home(
     }
 }
 
-// The reply of the leaf, which is taken from it. All else stays.
+// Takes the reply out of the leaf's result; everything else is unchanged.
 fn take_reply(work: &LeafWork<'_>, done: &mut LeafDone) -> Result<Vec<Reply<Global>>, AllocError>
     requires { AreAnswers work.now.commands.now done.old.made.pieces }
     ensures replies { IfOk result (λ replies. (place : ℕ) →
@@ -222,7 +223,7 @@ fn take_reply(work: &LeafWork<'_>, done: &mut LeafDone) -> Result<Vec<Reply<Glob
     replies_of(work.alloc, work.commands, done.take_pieces())
 }
 
-// Whether the leaf was not replaced, so that it asks nothing of its parent.
+// Whether the leaf was not replaced, so that its parent need not change.
 fn is_quiet(done: &LeafDone) -> bool
     ensures { result ≡ is_quiet done.now.made.updated }
 {
@@ -242,7 +243,7 @@ fn put_home(tree: &mut Tree<Global>, done: LeafDone)
     tree.put(pid, page);
 }
 
-// Climbs from the leaf, which was taken out of the tree and worked. Where it is refused, the leaf is back in its place as it was.
+// Climbs from the leaf, which was checked out and updated. If that fails, the original leaf is back in its place.
 fn climb_from(
     rt: &(impl Threads + Sync),
     crew: Crew,

@@ -1,4 +1,4 @@
-//! Faults in words: what a fault means, and what to do about it.
+//! Explanations of faults: what a fault means, and what to do about it.
 use crate::file_store::OpenFault;
 use keys::Fault;
 use std::io::ErrorKind;
@@ -74,7 +74,7 @@ impl<'a> fmt::Display for ExplainedFault<'a> {
     }
 }
 
-/// Why the store of the file at `path` isn't opened, in words.
+/// Displays why the store in the file at `path` was not opened.
 #[derive(Drop)]
 pub struct ExplainedOpenFault<'a> {
     pub path: &'a str,

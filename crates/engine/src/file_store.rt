@@ -24,15 +24,15 @@ use std::rt::Files;
 use std::thread::Threads;
 use std::{fmt, io};
 
-/// Why the store of a file isn't opened.
+/// Why the store in a file was not opened.
 #[derive(Debug, Drop)]
 pub enum OpenFault {
-    /// Another holds the file, or shares it. Nothing of the file was read or written.
+    /// Another program has locked the file, or shares it. Nothing was read or written.
     Locked,
-    /// A call of the file, or of the system that has it, failed for this reason.
+    /// A call on the file failed for this reason.
     File(io::Error),
-    /// The fault that the call or the bytes of the file have, or `Fault::NoMemory`; `Fault::Device` is never here, since that has a
-    /// reason.
+    /// The fault of the arguments or of the bytes of the file, or `Fault::NoMemory`. Never `Fault::Device`, because
+    /// such a failure has a reason.
     Store(Fault),
 }
 
@@ -67,7 +67,7 @@ impl From<io::Error> for OpenFault {
     }
 }
 
-// Why a store isn't opened that was refused by this fault: where a call of its disk failed, the reason of that.
+// The error for this fault: if a call of the disk failed, the reason of that failure.
 fn with_reason(fault: Fault, reason: Option<io::Error>) -> OpenFault
     ensures { ((fault ≡ Fault.Device)
         × MatchOption reason (result ≡ OpenFault.Store fault) (λ r. result ≡ OpenFault.File r))
@@ -84,7 +84,7 @@ fn with_reason(fault: Fault, reason: Option<io::Error>) -> OpenFault
 
 /// A disk over a file.
 trait DiskOfFile: Disk + Drop {
-    /// Gives the file this length, and zeros in the place of all that it held.
+    /// Replaces the contents of the file by `len` zeros.
     fn erased(self, len: u64) -> io::Result<Self>
         ensures size { IfOk result (λ disk. (Self.view disk).size ≡ len) }
         ensures honest { IfOk result
@@ -92,7 +92,7 @@ trait DiskOfFile: Disk + Drop {
         ensures zeros { IsTrue (Self.view self).is_honest →
             IfOk result (λ disk. (Self.view disk).seen ≡ replicate len 0) };
 
-    /// Why the last call failed that did.
+    /// Returns the error of the last call that failed.
     fn reason(&self) -> Option<io::Error>
         ensures { 0 < Self.failed self.now → IsSome result };
 }
@@ -107,7 +107,7 @@ impl<F: Read + Write + Seek + OpenFile + LockFile + Drop> DiskOfFile for FileDis
     }
 }
 
-// Makes a new store on a disk that is erased first. If that fails, the disk is emptied.
+// Creates a store on the disk, which is erased first. If that fails, the disk is emptied.
 fn new_store<D: DiskOfFile>(
     alloc: Global,
     disk: D,
@@ -131,7 +131,7 @@ fn new_store<D: DiskOfFile>(
     }
 }
 
-/// What a disk is found to hold.
+/// What was found on a disk.
 #[derive(Drop)]
 pub(crate) enum Found<D: Disk> {
     /// The store that its bytes encode.
@@ -140,7 +140,7 @@ pub(crate) enum Found<D: Disk> {
     Nothing(D),
 }
 
-// Finds out whether a disk of which no store could be read, for this fault, has an unfinished one.
+// Checks whether the disk, from which no store could be read because of this fault, has an unfinished store.
 fn find_unfinished<D: Disk>(fault: Fault, disk: D) -> Result<Found<D>, (Fault, D)>
     ensures cases { ((fault ≢ Fault.NotAStore) × (result ≡ Err (fault, disk)))
         ⊎ ((fault ≡ Fault.NotAStore) × MatchResult result
@@ -163,7 +163,8 @@ fn find_unfinished<D: Disk>(fault: Fault, disk: D) -> Result<Found<D>, (Fault, D
     }
 }
 
-// Finds what a disk holds. Of a file no clause says which bytes it has, or that they are synced; so this is written for any disk.
+// Finds what is on a disk. No clause describes the bytes of a file, or says that they are synced, so this function is
+// written for any disk.
 fn find_store<D: Disk>(
     rt: &(impl Threads + Sync),
     alloc: Global,
@@ -188,7 +189,7 @@ fn find_store<D: Disk>(
     }
 }
 
-// The store of a file that is held: a new one if the file has no bytes or those of an unfinished store, and otherwise the one that its
+// The store in a locked file: a new one if the file is empty or has an unfinished store, and otherwise the one that its
 // bytes encode.
 fn store_of<D: DiskOfFile>(
     rt: &(impl AllocGlobal + Threads + Sync),
@@ -200,7 +201,7 @@ fn store_of<D: DiskOfFile>(
     requires good { first_bad_field settings ≡ None }
     ensures opened { (file : Bytes) × IsReadOf (D.view disk) file
         × MatchResult result (IsStoreOfFile settings file) (IsFaultOfFile file) }
-    // On an honest disk: no old byte is under a new store, and the disk is settled.
+    // On an honest disk: no old byte remains under a new store, and the disk is synced.
     ensures bytes { IsTrue (D.view disk).is_honest → IsTrue (is_unfinished (D.view disk).seen) →
         IfOk result (λ store. (D.view store.disk).seen ≡ made_on_zeros settings) }
     ensures is_synced { IsTrue (D.view disk).is_honest →
@@ -214,19 +215,21 @@ fn store_of<D: DiskOfFile>(
     }
 }
 
-/// Opens the store of the file at this path, and holds the file for itself as long as the store or its disk is there.
+/// Opens the store in the file at this path, and locks the file as long as the store or its disk exists.
 ///
-/// If there is no file, or the file is empty or unfinished as `is_unfinished` says, makes a new store there under these settings: the
-/// file gets the length that they need, with zeros in the place of what it held, and is synced; its folder is not. So a file goes on that a
-/// crash left while a new store or a copy was made. Any other file is synced, and the store that it holds is recovered, with its own
-/// settings, as `Store::open` says. A file that is only read is opened by `FileDisk::open_shared` and `Store::open`.
+/// If there is no file, or the file is empty or unfinished (see `is_unfinished`), creates a store there with these
+/// settings: the file gets the length that they require, its contents are replaced, and it is synced; its directory is
+/// not. So this call also completes a file that a crash left while a store was created or copied. Any other file is
+/// synced, and the store in it is recovered with its own settings, as by `Store::open`. To open a file only for
+/// reading, use `FileDisk::open_shared` and `Store::open`.
 ///
-/// A crew out of range is `Fault::BadCrew`, and then the first field of the settings that is out of range `Fault::BadSettings`, whatever
-/// the file holds: no file was opened or made then. Then come `OpenFault::Locked` and a reason why the file can't be opened, as it was;
-/// then a file that holds no store and is not unfinished, or a damaged store, with the fault that `Store::recover` has of it, and
-/// `Fault::NoMemory` and a reason why a call failed. A file that was not to become a new store was not written then. One that was is empty
-/// or unfinished, and the next call makes the store. But if the file could not be emptied after a failure, it may hold a part of the new
-/// store: remove it.
+/// Fails with `Fault::BadCrew` if the crew is out of range, and then with `Fault::BadSettings` and the first field of
+/// the settings that is out of range, even if the file has a store with other settings; no file was opened or created
+/// then. Otherwise fails with `OpenFault::Locked`, or with the reason why the file cannot be opened; with the fault
+/// that `Store::recover` reports if the file has no store and is not unfinished, or if its store is damaged; with
+/// `Fault::NoMemory`; or with the reason why a call failed. A file in which no store was to be created has not been
+/// written. A file in which a store was to be created is empty or unfinished, and the next call creates the store; but
+/// if the file could not be emptied after a failure, it may have a part of the new store: delete it.
 pub fn open_or_create<R: AllocGlobal + Threads + Sync + Files>(
     rt: &R,
     crew: Crew,
@@ -236,8 +239,9 @@ pub fn open_or_create<R: AllocGlobal + Threads + Sync + Files>(
 where
     R::File: LockFile,
     ensures bad_crew { is_crew crew ≡ false → result ≡ Err (OpenFault.Store Fault.BadCrew) }
-    // No clause of the library says what a file holds: so there are bytes, such that the store is a new one if they are those of an
-    // unfinished store and else the one that they encode, or the fault is the one that they have; or there is no memory or a reason.
+    // No clause of the library describes the contents of a file. So there are some bytes such that the store is a new
+    // one if they are those of an unfinished store, and else the one that they encode; or the fault is theirs; or
+    // allocation or a call failed.
     ensures opened { IsTrue (is_crew crew) → MatchOption (first_bad_field settings)
         ((file : Bytes) × MatchResult result (IsStoreOfFile settings file) (IsFaultOfFile file))
         (λ field. result ≡ Err (OpenFault.Store (Fault.BadSettings field))) }

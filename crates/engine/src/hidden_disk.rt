@@ -1,4 +1,4 @@
-//! A disk on which a store is made out of sight.
+//! A disk on which a store is created so that no reader finds it before it is complete.
 ghost use Rattle.std.specs.Prelude.{◌≡◌, ◌+◌, ◌≤◌, IsTrue, length, take, drop, OnOk, [], ◌∷◌, refl, IfOk, slice_index};
 ghost use Rattle.std.proofs.Common.{◌∙◌};
 ghost use Rattle.keys.specs.Bytes.{Bytes};
@@ -8,7 +8,7 @@ ghost use Rattle.engine.specs.Hidden.{exchanged, exchanged_byte, exchanged_view,
 
 use flush_log::{Disk, DiskFault, write_through};
 
-/// The first byte of a settings block. Without it a disk holds no store.
+/// The first byte of a settings block. A disk without it has no store.
 const STORE_BYTE: u8 = b'B';
 
 // Exchanges 0 and the first byte of a settings block.
@@ -24,8 +24,9 @@ pub(crate) fn exchanged_byte(byte: u8) -> u8
     }
 }
 
-/// A disk whose first byte is exchanged in each read and each write: a store that is made on it shows the first byte of a
-/// settings block, and below that byte is 0. So the disk below holds no store until that byte is written there.
+/// A disk that exchanges its first byte in each read and each write: through it, a store that is created on it shows
+/// the first byte of a settings block, while the byte on the underlying disk is 0. So the underlying disk has no store
+/// until that byte is written.
 #[derive(Drop)]
 pub(crate) struct Hidden<D> {
     pub(crate) disk: D,
@@ -90,8 +91,8 @@ fn first_byte<D: Disk>(disk: &mut D) -> Result<u8, DiskFault>
     Ok(first[0])
 }
 
-// Makes the first byte of a disk 0. A byte that is neither 0 nor that of a store might be torn to that of a store: so the second
-// byte is made 0 before it.
+// Sets the first byte of a disk to 0. A torn write of a byte that is neither 0 nor that of a store could leave the byte
+// of a store, so the second byte is set to 0 first.
 fn clear_first<D: Disk>(disk: &mut D, first: u8) -> Result<(), DiskFault>
     requires room { 2 ≤ (D.view disk.old).size }
     requires first { IsTrue (D.view disk.old).is_honest →
@@ -114,8 +115,8 @@ fn clear_first<D: Disk>(disk: &mut D, first: u8) -> Result<(), DiskFault>
     write_through(disk, 0, &[0])
 }
 
-/// Writes the bytes of a new store to a disk, from its first byte on, but 0 in place of that byte, and syncs. Where the disk holds a
-/// store, its first byte is first made 0. A crash leaves the bytes that the disk had, or no store.
+/// Writes the bytes of a new store to a disk, with 0 in place of the first byte, and syncs. If there is a store on the
+/// disk, its first byte is set to 0 first. A crash leaves the old bytes of the disk, or no store.
 pub(crate) fn write_hidden<D: Disk>(disk: &mut D, bytes: &[u8]) -> Result<(), DiskFault>
     requires some { 2 ≤ length bytes.now }
     requires first { slice_index bytes.now 0 ≡ store_byte }
@@ -134,7 +135,7 @@ pub(crate) fn write_hidden<D: Disk>(disk: &mut D, bytes: &[u8]) -> Result<(), Di
     write_through(disk, 1, &bytes[1..])
 }
 
-/// Makes the first byte of a disk that of a store, and syncs. A crash leaves no store, or all of it.
+/// Sets the first byte of a disk to that of a store, and syncs. A crash leaves no store, or all of it.
 pub(crate) fn reveal<D: Disk>(disk: &mut D) -> Result<(), DiskFault>
     requires { 1 ≤ (D.view disk.old).size }
     ensures kept { Kept (D.view disk.old) (D.view disk.new) }

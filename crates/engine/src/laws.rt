@@ -1,5 +1,5 @@
-//! What batches, flushes, cleans and upgrades do one after the other, in the words of one of them. Each law is the contract of a
-//! function with an empty body.
+//! Laws about sequences of batches, flushes, cleans and upgrades, in terms of the single calls. Each law is the
+//! contract of a function with an empty body.
 ghost use Rattle.std.specs.Prelude.{◌≡◌, ◌≢◌, ◌^◌, ◌<◌, ◌↔◌, List, [], ◌∷◌, length, take, None, Some, Ok, Err};
 ghost use Rattle.std.specs.List.{AllByRecursion};
 ghost use Rattle.keys.specs.Bytes.{Bytes, Pairs};
@@ -30,22 +30,22 @@ use climb_plan::laws::{
 };
 use std::alloc::Allocator;
 
-/// What the tree of a store has at a key is the first row from that key on, where this has the key: so `get` and a `range` with
-/// limit 1 answer the same.
+/// The value of a store's tree at a key is the first row from that key on, if that row has the key: so `get` and a
+/// `range` with limit 1 return the same.
 pub fn a_value_is_the_first_row_from_its_key()
     ensures { (s : Settings) (t : Tree) (k v : Bytes) → IsProper s t →
         ((value_at k (contents t) ≡ Some v) ↔ (rows k None 1 (contents t) ≡ (k, v) ∷ [])) }
 {}
 
-/// A disk whose bytes don't begin with the word of a settings block holds no store, whatever its other bytes are. So a store is made
-/// by its first byte, which is written last.
+/// A disk whose bytes do not begin with the magic word of a settings block has no store, whatever its other bytes are.
+/// So a store comes into existence with its first byte, which is written last.
 pub fn a_disk_without_the_first_word_holds_no_store()
     ensures { (file : Bytes) → take (length store_magic) file ≢ store_magic →
         store_of_disk file ≡ Err NotAStore }
 {}
 
-/// Batches that are executed one after the other give the replies, and leave the map, of one batch of all their
-/// commands: it makes no difference how a list of commands is cut into batches.
+/// Batches that are executed one after the other have the same replies and the same resulting map as one batch of all
+/// their commands: how a list of commands is split into batches makes no difference.
 pub fn batches_are_their_commands_joined<A: Allocator>()
     ensures replies { (m : Pairs Bytes) (batches : List (List (Command A))) →
         flat (replies_in_turn m batches) ≡ replies_to m (flat batches) }
@@ -53,8 +53,8 @@ pub fn batches_are_their_commands_joined<A: Allocator>()
         map_in_turn m batches ≡ map_after_all m (flat batches) }
 {}
 
-/// Of batches that are executed one after the other on a proper tree, the tree afterwards holds the map that they leave in turn. It is
-/// proper again, and what its log has is true.
+/// After batches were executed one after the other on a proper tree, the tree has the map that results from them in
+/// order. It is proper again, and its log states are true.
 pub fn batches_are_planned_in_turn<A: Allocator>()
     ensures contents { (s : Settings) (t : Tree) (batches : List (List (Command A))) →
         first_bad_field s ≡ None → IsProper s t → AllByRecursion (AreShort s) batches →
@@ -71,8 +71,8 @@ pub fn batches_are_planned_in_turn<A: Allocator>()
     the_log_states_stay_true::<A>();
 }
 
-/// A batch that isn't refused leaves a store in step with the bytes of its disk, which it doesn't touch; and one as every store
-/// is, whatever its disk does. The root's page id is a number of 64 bits, as it is in memory.
+/// A batch that is not refused leaves the store in step with the bytes of its disk, which it does not touch, and keeps
+/// the invariant of stores, whatever the disk does. The root's page id has 64 bits, as it has in memory.
 pub fn a_batch_stays_in_step<A: Allocator>()
     ensures step { (s : Settings) (st : Store) (file : Bytes) (cs : List (Command A)) →
         IsStoreOf s st file → refusal_by s st.tree cs ≡ None →
@@ -88,9 +88,9 @@ pub fn a_batch_stays_in_step<A: Allocator>()
     what_the_log_has_of_a_page_stays_true::<A>();
 }
 
-/// Batches, flushes, cleans and upgrades, one after the other, up to the first that is refused: the replies are those of an ordered map,
-/// and the disk stands for the store of the last flush or upgrade, with the head, the tail, the number and the version that there are
-/// now. The numbers on the way have 64 bits, as all have in memory.
+/// Batches, flushes, cleans and upgrades, one after the other, up to the first one that is refused: the replies are
+/// those of an ordered map, and the disk encodes the store of the last flush or upgrade, with the present head, tail,
+/// number and version. All intermediate numbers have 64 bits, as they have in memory.
 pub fn steps_answer_as_a_map_and_are_read_back<A: Allocator>()
     ensures { (s : Settings) (st on_disk : Store) (file : Bytes) (steps : List (Step A)) →
         IsStoreOf s st file → store_of_disk file ≡ Ok (s, on_disk) →

@@ -1,5 +1,5 @@
-//! The work on the leaves of a batch, in one round: those that it only reads are looked at where they are, in the tree, and the others, which
-//! were taken out of it, are changed.
+//! The work on the leaves of a batch, in one round: leaves that the batch only reads are read in the tree, and the
+//! others, which were checked out, are changed.
 ghost use Rattle.std.specs.Prelude.{◌≡◌};
 ghost use Rattle.crew.specs.Turn.{IfDone, IfBack};
 ghost use Rattle.page_runs.specs.LeafWork.{IsLeafHeld, leaf_held_of, leaf_made};
@@ -20,11 +20,11 @@ use std::alloc::Global;
 pub(crate) enum LeafTask {
     /// It is only read, and stays in the tree.
     Read(PageRun),
-    /// It may be changed, and was taken out of the tree.
+    /// It may be changed, and was checked out of the tree.
     Change(LeafJob),
 }
 
-/// What was made of it: its answers, and what gives the task back.
+/// The result of a task: its answers, and what is needed to undo it.
 #[derive(Drop)]
 pub(crate) enum TaskDone {
     Read(LeafRead),
@@ -34,13 +34,13 @@ pub(crate) enum TaskDone {
 /// The work on the leaves of a batch.
 #[derive(Drop)]
 pub(crate) struct BatchWork<'a> {
-    /// Where new runs, bases and answers are allocated.
+    /// Allocates new runs, bases and answers.
     pub(crate) alloc: Global,
     /// The store's settings.
     pub(crate) settings: Settings,
     /// The whole batch.
     pub(crate) commands: &'a [Command<Global>],
-    /// The tree, without the leaves that may be changed. All workers look into it.
+    /// The tree, without the leaves that may be changed. All workers read it.
     pub(crate) tree: &'a Tree<Global>,
 }
 
@@ -104,7 +104,7 @@ fn changing<'a>(work: &BatchWork<'a>) -> LeafWork<'a>
     }
 }
 
-// Reads a leaf where it is.
+// Reads a leaf in the tree.
 fn read(work: &BatchWork<'_>, page_run: PageRun) -> Turn<LeafTask, TaskDone>
     requires { IsRouteToRead work.now.tree.now work.now.commands.now page_run }
     ensures origin { IfDone result (λ done. done_held done ≡ Reads page_run) }
@@ -119,7 +119,7 @@ fn read(work: &BatchWork<'_>, page_run: PageRun) -> Turn<LeafTask, TaskDone>
     }
 }
 
-// Changes a leaf that was taken out of the tree.
+// Changes a leaf that was checked out of the tree.
 fn change(work: &BatchWork<'_>, job: LeafJob) -> Turn<LeafTask, TaskDone>
     requires { IsLeafHeld work.now.commands.now (leaf_held_of job) }
     ensures origin { IfDone result (λ done. done_held done ≡ Changes (leaf_held_of job)) }

@@ -1,5 +1,5 @@
-//! The leaves of a batch: those that may be changed are taken out of the tree, all are worked, asked for their answers, and those that were
-//! taken are put back where the batch is refused.
+//! The leaves of a batch: leaves that may be changed are checked out of the tree, all are processed and their answers
+//! collected, and if the batch fails, the ones that were checked out are put back unchanged.
 ghost use Rattle.std.specs.Prelude.{◌≡◌, ℕ, ◌+◌, ◌<◌, ◌≤◌, ◌∷◌, ◌++◌, [], Some, None, length, map, slice_get, IfOk, IsOkAnd, OnOk, OnErr, vec_capacity};
 ghost use Rattle.std.specs.List.{All};
 ghost use Rattle.mapping.specs.Proper.{AreRisingPids};
@@ -19,8 +19,8 @@ use routing::PageRun;
 use std::alloc::{AllocError, Global};
 use std::thread::Threads;
 
-/// Has the crew work the leaves that a batch goes to, each with its commands, in one round. Those that may be changed are taken out of the
-/// tree. Where memory is refused, the tree is as it was.
+/// Applies the commands of a batch to its leaves, in one round of the crew. Leaves that may be changed are checked out
+/// of the tree. If allocation fails, the tree is unchanged.
 pub(crate) fn work_leaves(
     rt: &(impl Threads + Sync),
     crew: Crew,
@@ -62,7 +62,7 @@ pub(crate) fn work_leaves(
     }
 }
 
-// The tasks of the leaves: those that may be changed are taken out of the tree.
+// The tasks of the leaves: leaves that may be changed are checked out of the tree.
 fn take_leaves(
     work: &LeafWork<'_>,
     tree: &mut Tree<Global>,
@@ -85,7 +85,7 @@ fn take_leaves(
     Ok(tasks)
 }
 
-// The task of the leaf: where it may be changed, it is taken out of the tree.
+// The task of the leaf. If the leaf may be changed, it is checked out of the tree.
 fn task_of(commands: &[Command<Global>], tree: &mut Tree<Global>, page_run: PageRun) -> LeafTask
     requires { IsLeafAt (page_of tree.old.table page_run.pid) }
     ensures held { task_held result ≡ task_for tree.old.table commands.now page_run }
@@ -104,7 +104,7 @@ fn task_of(commands: &[Command<Global>], tree: &mut Tree<Global>, page_run: Page
     })
 }
 
-// Puts the leaves that the tasks hold back into their places.
+// Puts the leaves of the tasks back into their places.
 fn put_back(tree: &mut Tree<Global>, tasks: Vec<LeafTask>)
     requires { AreAway tree.old.table
         (map (λ h. h.route.pid) (taken_of (map task_held tasks.items))) }
@@ -117,7 +117,7 @@ fn put_back(tree: &mut Tree<Global>, tasks: Vec<LeafTask>)
     }
 }
 
-// Puts the leaf that the task holds, if it holds one, back into its place.
+// Puts the leaf of the task, if it has one, back into its place.
 fn put_task_back(tree: &mut Tree<Global>, task: LeafTask)
     requires { AreAway tree.old.table (map (λ h. h.route.pid) (taken_in (task_held task))) }
     ensures { tree.new ≡ record tree.old {
@@ -140,8 +140,8 @@ pub(crate) fn put_leaf_back(tree: &mut Tree<Global>, job: LeafJob)
     tree.put(page_run.pid(), page);
 }
 
-/// The replies to the commands, each at its command's place, by what the leaves answered, one leaf after the other. Those that may have been
-/// changed go onto the list, which has room for them, without their answers.
+/// The replies to the commands, each at its command's place, from the answers of the leaves in order. Leaves that may
+/// have been changed are appended to the list, which has room for them, without their answers.
 pub(crate) fn take_replies(
     alloc: Global,
     commands: &[Command<Global>],
@@ -162,7 +162,7 @@ pub(crate) fn take_replies(
     replies
 }
 
-// The answers of a leaf, which goes onto the list if it may have been changed.
+// The answers of a leaf, which is appended to the list if it may have been changed.
 fn take_answers(done: TaskDone, leaves: &mut Vec<LeafDone>) -> Pieces<Global>
     requires { length leaves.old.items < vec_capacity leaves.old }
     ensures pieces { result ≡ pieces_in done }
@@ -180,7 +180,7 @@ fn take_answers(done: TaskDone, leaves: &mut Vec<LeafDone>) -> Pieces<Global>
     }
 }
 
-/// The replies with the answers of one more leaf, unless they were refused.
+/// Adds the answers of one more leaf to the replies, unless an error occurred before.
 pub(crate) fn with_answers(
     replies: Result<Vec<Reply<Global>>, AllocError>,
     commands: &[Command<Global>],
@@ -196,7 +196,7 @@ pub(crate) fn with_answers(
     Ok(replies)
 }
 
-/// Undoes what was made of the leaves, and puts them back into their places as they were. It takes no memory.
+/// Undoes the changes of the leaves, and puts the original leaves back into their places. Does not allocate.
 pub(crate) fn undo_leaves(work: &LeafWork<'_>, tree: &mut Tree<Global>, leaves: Vec<LeafDone>)
     requires { AreAway tree.old.table (map (λ d. d.held.route.pid) leaves.items) }
     ensures { tree.new ≡ record tree.old {

@@ -1,6 +1,7 @@
-//! The store: a tree of pages on which batches of commands are executed, and its log on a disk, to which it is flushed, which is
-//! cleaned, and which can be upgraded.
-//! Other crates name items by this root, and laws by the public modules `laws` and `step_laws`.
+//! The store: a tree of pages on which batches of commands are executed, and its log on a disk. A flush writes the tree
+//! to the log, a clean frees a segment of the log, and an upgrade changes the version of the log.
+//!
+//! Other crates import items from this root, and laws from the public modules `laws` and `step_laws`.
 #![tactic(auto)]
 
 mod execute;

@@ -1,5 +1,5 @@
-//! What every store promises, said of an ordered map and of a disk alone: no clause here names a page, a log or a byte's place.
-//! `docs/CLAIM.md` explains it.
+//! What every store promises, stated for an ordered map and a disk: no clause here mentions a page, a log or a position
+//! on the disk. `docs/CLAIM.md` explains it.
 ghost use Rattle.std.specs.Prelude.{◌≡◌, ◌≢◌, ◌⊎◌, Bool, true, false, List, [], map, Option, Some, None, Ok, Err, IsTrue, IfOk, OnOk, OnErr, IfErr};
 ghost use Rattle.std.specs.Option.{option_copied};
 ghost use Rattle.std.specs.Thread.{IsSync};
@@ -32,10 +32,12 @@ use std::thread::Threads;
 
 /// An ordered map of byte strings in memory, which a flush makes durable on a disk of type `D`.
 ///
-/// `Fault::Device` from a flush, a clean or an upgrade makes the store a failed one. A failed store answers `Fault::Failed` to each later
-/// batch, flush, clean and upgrade, and still reads. To continue, close it and open its disk.
+/// `Fault::Device` from a flush, a clean or an upgrade makes the store a failed one. In a failed store, each later
+/// batch, flush, clean and upgrade fails with `Fault::Failed`; reads still work. To continue, close it and open its
+/// disk.
 ///
-/// No clause says that memory can be allocated, or that a log has room: any call that returns a fault may return one at any time.
+/// No clause says that memory can be allocated, or that a log has room: any call that returns a fault may return one at
+/// any time.
 pub trait OrderedStore<D: Disk> {
     // The pairs that the store holds in memory, in the order of their keys.
     ghost contents: { Self → Pairs Bytes };
@@ -49,10 +51,11 @@ pub trait OrderedStore<D: Disk> {
     // Whether the store is a failed one.
     ghost has_failed: { Self → Bool };
 
-    // The settings and the pairs that these bytes of a disk hold, or nothing if they hold no store.
+    // The settings and the pairs that these bytes of a disk encode, or nothing if they encode no store.
     ghost recovered: { Bytes → Option Held };
 
-    // All else that a store has, as plain data of any type. Two stores with the same state and the same bytes are replicas of each other.
+    // All other data of a store, as plain data of any type. Two stores with the same state and the same bytes are
+    // replicas of each other.
     ghost State: { Type 0 };
 
     ghost state: { Self → State };
@@ -63,7 +66,7 @@ pub trait OrderedStore<D: Disk> {
     // The state of the store that is opened from these bytes.
     ghost after_open: { Bytes → Option State };
 
-    // What the other calls make of a state, and of the bytes of its disk.
+    // The effect of the other calls on a state, and on the bytes of its disk.
     ghost after_batch: { given.Settings → State → List (commanded.Command global.Global) → State };
 
     ghost after_flush: { given.Settings → State → Bytes → Option (State × Bytes) };
@@ -72,10 +75,10 @@ pub trait OrderedStore<D: Disk> {
 
     ghost after_upgrade: { given.Settings → State → Bytes → Option (State × Bytes) };
 
-    /// Creates an empty store on a disk. What the disk held is deleted.
+    /// Creates an empty store on a disk. The old contents of the disk are lost.
     ///
-    /// Fails with `Fault::BadSettings`, `Fault::DiskTooSmall`, `Fault::NoMemory` or `Fault::Device`. The disk is returned with the fault,
-    /// unchanged unless the fault is `Device`.
+    /// Fails with `Fault::BadSettings`, `Fault::DiskTooSmall`, `Fault::NoMemory` or `Fault::Device`. The disk is
+    /// returned with the fault, unchanged unless the fault is `Device`.
     fn create(alloc: Global, disk: D, chosen: Settings) -> Result<Self, (Fault, D)>
         ensures made { IfOk result (λ x. (contents x ≡ []) × (settings x ≡ chosen)
             × (has_failed x ≡ false)) }
@@ -90,10 +93,10 @@ pub trait OrderedStore<D: Disk> {
         ensures returned { IfErr result (λ e. e.0 ≢ Device → e.1 ≡ disk) }
         ensures kept { Kept (D.view disk) (D.view (disk_in disk_of result)) };
 
-    /// Opens the store that a disk holds, with the contents of its last flush or upgrade. Syncs the disk, and writes nothing.
+    /// Opens the store on a disk, with the contents of its last flush or upgrade. Syncs the disk, and writes nothing.
     ///
-    /// Fails if the disk holds no store, and with `Fault::BadCrew`, `Fault::NoMemory` or `Fault::Device`. The disk is returned with the
-    /// fault.
+    /// Fails if there is no store on the disk, and with `Fault::BadCrew`, `Fault::NoMemory` or `Fault::Device`. The
+    /// disk is returned with the fault.
     fn open<R: Threads + Sync>(
         rt: &R,
         alloc: Global,
@@ -107,7 +110,7 @@ pub trait OrderedStore<D: Disk> {
         ensures fine { IfOk result (λ x. (has_failed x ≡ false) × IsRising (contents x)) }
         ensures state { IsTrue (D.view disk).is_honest →
             IfOk result (λ x. after_open (D.view disk).seen ≡ Some (state x)) }
-        // A disk that holds a store is refused only for lack of memory, or because a call of the disk failed.
+        // Opening a disk that has a store fails only if allocation or a call of the disk fails.
         ensures refused { IsTrue (D.view disk).is_honest → IsTrue (is_crew crew) →
             IfErr result (λ e. (recovered (D.view disk).seen ≡ None) ⊎ (e.0 ≡ NoMemory)
             ⊎ ((e.0 ≡ Device) × HasFailed (D.failed disk) (D.failed e.1))) }
@@ -117,12 +120,12 @@ pub trait OrderedStore<D: Disk> {
             Leaves (D.view disk) (D.view (disk_in disk_of result)) (λ before c. c ≡ before) }
         ensures kept { Kept (D.view disk) (D.view (disk_in disk_of result)) };
 
-    /// Returns the value of a key, or nothing if the store has no pair with this key. A failed store answers, too.
+    /// Returns the value of a key, or `None` if the store has no pair with this key. Also works in a failed store.
     fn get(&self, key: &[u8]) -> Option<&[u8]>
         ensures { option_copied result ≡ value_at key.now (contents self.now) };
 
-    /// Returns the first `limit` pairs whose keys are `lo` or above, and below `hi` if it is given, in the order of their keys. A failed store
-    /// answers, too. Fails with `Fault::NoMemory`.
+    /// Returns the first `limit` pairs whose keys are `lo` or above, and below `hi` if it is given, in the order of
+    /// their keys. Also works in a failed store. Fails with `Fault::NoMemory`.
     fn range(&self, lo: &[u8], hi: Option<&[u8]>, limit: u32) -> Result<Vec<(&[u8], &[u8])>, Fault>
         ensures rows { IfOk result (λ found. map (λ row. (row.0.now, row.1.now)) found.items
             ≡ rows lo.now (option_copied hi.entry) limit (contents self.now)) }
@@ -143,7 +146,8 @@ pub trait OrderedStore<D: Disk> {
             (λ replies. replies.items ≡ replies_to (contents self.old) commands.now) }
         ensures contents { OnOk result
             (contents self.new ≡ map_after_all (contents self.old) commands.now) }
-        // The new state is a function of the old one and of the commands: it depends neither on the crew nor on what threads do.
+        // The new state is a function of the old one and of the commands: it depends neither on the crew nor on what
+        // threads do.
         ensures state { OnOk result
             (state self.new ≡ after_batch (settings self.old) (state self.old) commands.now) }
         ensures rest { (settings self.new ≡ settings self.old) × (disk_of self.new ≡ disk_of self.old)
@@ -154,8 +158,9 @@ pub trait OrderedStore<D: Disk> {
 
     /// Makes the contents durable, and returns the number of commits so far.
     ///
-    /// Fails with `Fault::Failed`, `Fault::BadCrew`, `Fault::NoMemory`, `Fault::Spent`, `Fault::Full` or `Fault::Device`. The store is then
-    /// unchanged, unless the fault is `Device`: this leaves a failed store, whose disk holds the contents of before or the new ones.
+    /// Fails with `Fault::Failed`, `Fault::BadCrew`, `Fault::NoMemory`, `Fault::Spent`, `Fault::Full` or
+    /// `Fault::Device`. The store is then unchanged, unless the fault is `Device`: this leaves a failed store, whose
+    /// disk has the old contents or the new ones.
     fn flush<R: Threads + Sync>(&mut self, rt: &R, crew: Crew) -> Result<u64, Fault>
         requires { IsSync R.row }
         ensures contents { contents self.new ≡ contents self.old }
@@ -179,11 +184,11 @@ pub trait OrderedStore<D: Disk> {
         ensures failed { has_failed self.old ≡ true → result ≡ Err Failed }
         ensures refused { IfErr result (λ fault. fault ≢ Device → self.new ≡ self.old) };
 
-    /// Frees the first segment of the log, and returns the number of the segment with which the log begins now. The contents stay, and
-    /// so do the pairs that the disk holds, with or without a crash.
+    /// Frees the first segment of the log, and returns the number of the segment with which the log begins now. The
+    /// contents in memory and on the disk stay the same, with or without a crash.
     ///
-    /// Fails with `Fault::Failed`, `Fault::BadCrew`, `Fault::NothingToClean`, `Fault::NoMemory`, `Fault::Spent`, `Fault::Full`,
-    /// `Fault::Device`, or the fault of a damaged log. `Device` leaves a failed store.
+    /// Fails with `Fault::Failed`, `Fault::BadCrew`, `Fault::NothingToClean`, `Fault::NoMemory`, `Fault::Spent`,
+    /// `Fault::Full`, `Fault::Device`, or the fault of a damaged log. `Device` leaves a failed store.
     fn clean<R: Threads + Sync>(&mut self, rt: &R, crew: Crew) -> Result<u64, Fault>
         requires { IsSync R.row }
         ensures contents { contents self.new ≡ contents self.old }
@@ -208,9 +213,11 @@ pub trait OrderedStore<D: Disk> {
             IfErr result (λ fault. fault ≢ Device →
             Same (D.view (disk_of self.old)) (D.view (disk_of self.new))) };
 
-    /// Brings the log to version 2, makes the contents durable, and returns the number of commits so far. An upgrade cannot be undone.
+    /// Brings the log to version 2, makes the contents durable, and returns the number of commits so far. An upgrade
+    /// cannot be undone.
     ///
-    /// Fails with `Fault::AlreadyUpgraded` if the log has version 2, and else as `flush`, which names the state after each fault.
+    /// Fails with `Fault::AlreadyUpgraded` if the log has version 2, and otherwise like `flush`, whose documentation
+    /// describes the state after each fault.
     fn upgrade<R: Threads + Sync>(&mut self, rt: &R, crew: Crew) -> Result<u64, Fault>
         requires { IsSync R.row }
         ensures contents { contents self.new ≡ contents self.old }

@@ -1,4 +1,4 @@
-//! A batch that only looks: its leaves are read where they are, in the tree, and nothing is changed.
+//! A batch that only reads: its leaves are read in the tree, and nothing is changed.
 ghost use Rattle.std.specs.Prelude.{◌≡◌, ℕ, map, slice_get, IfOk};
 ghost use Rattle.std.specs.List.{AllByRecursion, list_all};
 ghost use Rattle.keys.specs.Lists.{flat};
@@ -15,14 +15,14 @@ use routing::PageRun;
 use std::alloc::{AllocError, Global};
 use std::thread::Threads;
 
-/// Whether all commands only look: gets and scans.
+/// Whether all commands only read: gets and scans.
 pub(crate) fn are_all_read_only(commands: &[Command<Global>]) -> bool
     ensures { result ≡ list_all is_read_only commands.now }
 {
     commands.iter().all(|command| is_read_only(command))
 }
 
-// Whether the command only looks.
+// Whether the command only reads.
 fn is_read_only(command: &Command<Global>) -> bool
     ensures { result ≡ is_read_only command.now }
 {
@@ -33,7 +33,7 @@ fn is_read_only(command: &Command<Global>) -> bool
     }
 }
 
-/// Has the crew read these leaves, which are in the tree of the work and stay there.
+/// Reads these leaves, which stay in the tree, in one round of the crew.
 pub(crate) fn read_leaves(
     rt: &(impl Threads + Sync),
     crew: Crew,
@@ -52,7 +52,7 @@ pub(crate) fn read_leaves(
     }
 }
 
-/// The replies to the commands, each at its command's place, by what the leaves answered, one leaf after the other.
+/// The replies to the commands, each at its command's place, from the answers of the leaves in order.
 pub(crate) fn replies_of(
     alloc: Global,
     commands: &[Command<Global>],

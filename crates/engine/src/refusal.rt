@@ -1,4 +1,4 @@
-//! The tests that a batch passes before any of it is executed.
+//! The checks of a batch before any of it is executed.
 ghost use Rattle.std.specs.Prelude.{◌≡◌, Ok, Err, IsTrue, IfOk, IfErr, MatchOption, false};
 ghost use Rattle.engine.specs.Refusal.{key_fault, value_fault, bound_fault, fault_at, first_fault, refusal, is_crew};
 
@@ -20,7 +20,7 @@ pub(crate) fn admit_crew(crew: Crew) -> Result<(), Fault>
     }
 }
 
-// Refuses a batch that is too long, and else the first command that has a fault.
+// Rejects a batch that is too long, or else the first command that has a fault.
 pub(crate) fn admit(settings: &Settings, commands: &[Command<Global>]) -> Result<(), Fault>
     ensures { MatchOption (refusal settings.now commands.now) (result ≡ Ok tt)
         (λ fault. result ≡ Err fault) }
@@ -47,7 +47,7 @@ fn first_fault(settings: &Settings, commands: &[Command<Global>]) -> Option<Faul
     None
 }
 
-// What is wrong with the command at this place.
+// The fault of the command at this place, if it has one.
 fn fault_at(settings: &Settings, place: usize, command: &Command<Global>) -> Option<Fault>
     ensures { result ≡ fault_at settings.now place command.now }
 {
@@ -66,7 +66,7 @@ fn fault_at(settings: &Settings, place: usize, command: &Command<Global>) -> Opt
     }
 }
 
-// What is wrong with a key of the command at this place.
+// The fault of a key of the command at this place, if it has one.
 fn key_fault(settings: &Settings, place: usize, key: &Key<Global>) -> Option<Fault>
     ensures { result ≡ key_fault settings.now place key.now }
 {
@@ -77,7 +77,7 @@ fn key_fault(settings: &Settings, place: usize, key: &Key<Global>) -> Option<Fau
     }
 }
 
-// What is wrong with the upper bound of the scan or wipe at this place.
+// The fault of the upper bound of the scan or wipe at this place, if it has one.
 fn bound_fault(settings: &Settings, place: usize, hi: &Option<Key<Global>>) -> Option<Fault>
     ensures { result ≡ bound_fault settings.now place hi.now }
 {
@@ -87,7 +87,7 @@ fn bound_fault(settings: &Settings, place: usize, hi: &Option<Key<Global>>) -> O
     }
 }
 
-// What is wrong with a value of the command at this place.
+// The fault of a value of the command at this place, if it has one.
 fn value_fault(settings: &Settings, place: usize, value: &Value<Global>) -> Option<Fault>
     ensures { result ≡ value_fault settings.now place value.now }
 {

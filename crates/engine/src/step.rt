@@ -1,21 +1,21 @@
-//! What is played on a store, and what is answered.
+//! The steps of a play on a store, and their answers.
 use keys::{Command, Reply};
 use std::alloc::Global;
 
 /// A step of a play.
 #[derive(Clone, Copy)]
 pub enum Step<'a> {
-    /// To execute these commands as one batch.
+    /// Executes these commands as one batch.
     Batch(&'a [Command<Global>]),
-    /// To write what the log lacks.
+    /// Flushes: writes what the log lacks.
     Flush,
-    /// To make the first segment of the log free.
+    /// Cleans: frees the first segment of the log.
     Clean,
-    /// To bring the log to version 2.
+    /// Upgrades the log to version 2.
     Upgrade,
 }
 
-/// What a step answers.
+/// The answer of a step.
 #[derive(Debug, Drop, PartialEq, Eq)]
 pub enum Answer {
     /// The reply to each command of a batch, at its place.

@@ -1,4 +1,4 @@
-//! What steps come to that are played one after the other, and what a crash leaves on the way. Each law is the contract of a
+//! Laws about steps that are played one after the other, and about crashes during a play. Each law is the contract of a
 //! function with an empty body.
 ghost use Rattle.std.specs.Prelude.{◌≡◌, ◌⊎◌, List, ◌++◌, None, Ok};
 ghost use Rattle.keys.specs.Bytes.{Bytes};
@@ -11,9 +11,10 @@ ghost use Rattle.engine.specs.Steps.{Step, Answer, Batching, NumbersFit, AllNumb
 
 use std::alloc::Allocator;
 
-/// Over any batches, flushes, cleans and upgrades, up to the first that is refused: the replies are those of an ordered map that takes
-/// the commands one by one, and the disk stands for the tree of the last flush or upgrade, or else for the one that it stood for before.
-/// Whatever a batch does to the tree, as long as it keeps the store one as every store is.
+/// For any sequence of batches, flushes, cleans and upgrades, up to the first one that is refused: the replies are
+/// those of an ordered map that executes the commands one by one, and the disk encodes the tree of the last flush or
+/// upgrade, or if there was none, the tree that it encoded before. This holds whatever a batch does to the tree, as
+/// long as it keeps the invariant of stores.
 pub fn steps_are_played_one_by_one<A: Allocator>()
     ensures { (b : Batching A) (s : Settings) (steps : List (Step A))
         (st on_disk : Store) (file : Bytes) →
@@ -22,8 +23,9 @@ pub fn steps_are_played_one_by_one<A: Allocator>()
         ArePlayed b s st.tree on_disk.tree steps (plays b s st file steps) }
 {}
 
-/// Steps that are joined are played in turn: what the later ones answer and leave is what they do of themselves, on what the
-/// earlier ones left; nothing, where one of these was refused.
+/// Two lists of steps that are joined are played one after the other: the answers and the results of the second list
+/// are those of playing it on the result of the first one; if a step of the first list is refused, the second list is
+/// not played.
 pub fn steps_that_are_joined_are_played_in_turn<A: Allocator>()
     ensures joined { (b : Batching A) (s : Settings) (st : Store)
         (file : Bytes) (xs ys : List (Step A)) →
@@ -36,9 +38,9 @@ pub fn steps_that_are_joined_are_played_in_turn<A: Allocator>()
         AllNumbersFit b s st file (xs ++ ys) }
 {}
 
-/// A crash at any moment of a play leaves a disk that stands for the store after some of its steps: no more of them than are
-/// played. During one step it leaves the store before, or the bytes after it. What stands after some steps does so when
-/// more are played, and so does what stands after all.
+/// A crash at any moment of a play leaves a disk that encodes the store after some number of its steps, at most as many
+/// as are played. During one step it leaves the store before the step, or the bytes after it. A store after some of the
+/// steps is also one after some steps of a longer play, and so is the store after all steps.
 pub fn a_crash_in_a_play_leaves_the_store_after_some_steps<A: Allocator>()
     ensures play { (b : Batching A) (s : Settings) (st : Store)
         (file c : Bytes) (steps : List (Step A)) →

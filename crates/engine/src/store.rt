@@ -43,11 +43,11 @@ use std::marker::Model;
 use std::thread::Threads;
 use verify::Report;
 
-/// A store of keys and values: a tree of pages under a mapping table, whose log is on a disk. Contracts see it as a `State`; what is
-/// true of every store is its invariant, whatever the disk does.
+/// A store of keys and values: a tree of pages in a mapping table, with a log on a disk. Contracts see it as a `State`.
+/// Its invariant holds for every store, whatever the disk does.
 ///
-/// Once a call of the disk has failed in a flush, an upgrade or a clean, every later batch, flush, upgrade and clean answers
-/// `Fault::Failed`.
+/// After a call of the disk has failed in a flush, an upgrade or a clean, every later batch, flush, upgrade and clean
+/// fails with `Fault::Failed`.
 #[derive(Drop)]
 pub struct Store<D: Disk> {
     settings: Settings,
@@ -71,16 +71,17 @@ impl<D: Disk> Model for Store<D> {
 }
 
 impl<D: Disk> Store<D> {
-    /// Makes a store on a disk: it holds nothing yet, and its log is one empty leaf, of version 1. What the disk held is lost.
+    /// Creates an empty store on a disk: its log has version 1 and one frame, an empty leaf. The old contents of the
+    /// disk are lost.
     ///
-    /// The first field of the settings that is out of range is `Fault::BadSettings`, as `Settings::check` says; then a disk that
-    /// has no room for all segments is `Fault::DiskTooSmall`; then there are `Fault::NoMemory`, and `Fault::Device` where a
-    /// call of the disk failed. After an `Err` the disk is handed back: as it was, but after `Fault::Device`.
+    /// Fails with the first of these faults that applies: `Fault::BadSettings` with the field that `Settings::check`
+    /// reports; `Fault::DiskTooSmall` if the disk has no room for all segments; `Fault::NoMemory`; or `Fault::Device`
+    /// if a call of the disk failed. The disk is returned with the fault, unchanged unless the fault is `Device`.
     ///
-    /// The first byte of the settings block is written last, after all else was synced, and then synced too. So a crash leaves what
-    /// the disk held, no store (`Fault::NotAStore`), or the new one.
+    /// The first byte of the settings block is written last, after everything else is synced, and is then synced too.
+    /// So a crash leaves the old contents of the disk, no store (`Fault::NotAStore`), or the new store.
     pub fn create(alloc: Global, disk: D, settings: Settings) -> Result<Store<D>, (Fault, D)>
-        // Which fault: that of the settings and of the size, and else a late one.
+        // Which fault: the one for the settings or the size, else out of memory or a failed disk call.
         ensures refused { MatchOption (create_refusal settings (D.view disk).size)
             (IfErr result (λ e. IsLate (D.failed disk) (D.failed e.1) e.0))
             (λ fault. IsErr result × IfErr result (λ e. e.0 ≡ fault)) }
@@ -92,12 +93,12 @@ impl<D: Disk> Store<D> {
         ensures contents { IfOk result (λ made. contents made.store.tree ≡ []) }
         ensures kept { IfOk result
             (λ made. Kept (D.view disk) (D.view made.disk) × (D.failed made.disk ≡ D.failed disk)) }
-        // On an honest disk: these bytes, and settled.
+        // On an honest disk: the new bytes, synced.
         ensures bytes { IsTrue (D.view disk).is_honest →
             IfOk result (λ made.
             (after_create settings (D.view disk).seen ≡ Ok (made.store, (D.view made.disk).seen))
             × IsSynced (D.view made.disk)) }
-        // On an honest disk that is settled a crash at any moment leaves the bytes as they were, no store, or the new one.
+        // On a synced disk, a crash at any moment leaves the old bytes, no store, or the new one.
         ensures crash { IsSynced (D.view disk) → MatchResult result
             (λ made. LeavesOnly (D.view disk) (D.view made.disk)
             (IsLeftCreating settings (D.view disk).seen))
@@ -111,30 +112,32 @@ impl<D: Disk> Store<D> {
         }
     }
 
-    /// The settings that the store was created with.
+    /// Returns the settings that the store was created with.
     pub fn settings(&self) -> Settings
         ensures { result ≡ self.now.settings }
     {
         self.settings
     }
 
-    /// The disk. What is written to it beside the store is not the store's.
+    /// Returns the disk. Bytes that are written to it outside the store are not the store's.
     pub fn disk(&self) -> &D
         ensures { result.now ≡ self.now.disk }
     {
         &self.disk
     }
 
-    /// Executes the commands in the order of their places, and returns the reply to each at its place. The crew works the pages, and
-    /// the gate is called for each piece of them; neither changes anything that can be seen.
+    /// Executes the commands in the order of their places, and returns the reply to each at its place. The crew's
+    /// threads share the work on the pages, and `gate` is called for each piece of that work; neither affects the
+    /// result.
     ///
-    /// A store that has failed is `Fault::Failed`, and then a crew out of range `Fault::BadCrew`. A batch of more than 65,535 commands
-    /// is `Fault::BatchTooLong`. Else the first command with a key that is too long is `Fault::KeyTooLong`, and with a value that is
-    /// too long `Fault::ValueTooLong`, with its place; a command's key comes before its value. Else there is `Fault::NoMemory`, where
-    /// memory was refused, and `Fault::Spent`, where the tree would have more than 64 levels. After an `Err` the store is as it was,
-    /// and the same batch can be called again.
+    /// Fails with `Fault::Failed` if the store has failed; then with `Fault::BadCrew` if the crew is out of range; then
+    /// with `Fault::BatchTooLong` if there are more than 65,535 commands; then with the fault of the first command
+    /// whose key is too long (`Fault::KeyTooLong`) or whose value is too long (`Fault::ValueTooLong`), with its place;
+    /// a command's key is checked before its value. Otherwise it may fail with `Fault::NoMemory` if allocation fails,
+    /// or with `Fault::Spent` if the tree would have more than 64 levels. After an `Err` the store is unchanged, and
+    /// the same batch can be called again.
     ///
-    /// The disk gets nothing of it before the next flush or upgrade.
+    /// Nothing is written to the disk before the next flush or upgrade.
     pub fn batch(
         &mut self,
         rt: &(impl Threads + Sync),
@@ -142,7 +145,8 @@ impl<D: Disk> Store<D> {
         gate: &impl Gate,
         commands: &[Command<Global>],
     ) -> Result<Vec<Reply<Global>>, Fault>
-        // The replies are those of an ordered map; the pages, the root, the height and what the log has are the plan's.
+        // The replies are those of an ordered map; the pages, the root, the height and the log states are those of the
+        // plan.
         ensures replies { IfOk result
             (λ replies. replies.items ≡ replies_to (contents self.old.store.tree) commands.now) }
         ensures store { OnOk result
@@ -152,7 +156,7 @@ impl<D: Disk> Store<D> {
         ensures rest { (self.new.settings ≡ self.old.settings) × (self.new.disk ≡ self.old.disk)
             × (self.new.has_failed ≡ self.old.has_failed) }
 
-        // Which fault, and that there is no other but for lack of memory and for the height.
+        // Which fault, and that there are no other faults except for memory and for the height.
         ensures failed { self.old.has_failed ≡ true → result ≡ Err Fault.Failed }
         ensures bad_crew { self.old.has_failed ≡ false → is_crew crew ≡ false →
             result ≡ Err Fault.BadCrew }
@@ -161,7 +165,7 @@ impl<D: Disk> Store<D> {
             (IfErr result (IsLaterFault self.old.settings self.old.store.tree commands.now))
             (λ fault. result ≡ Err fault) }
         ensures unchanged { OnErr result (self.new ≡ self.old) }
-        // One that is done is refused by nothing, and its root's page id has 64 bits.
+        // A batch that succeeds is refused by no rule, and its root's page id has 64 bits.
         ensures allowed { OnOk result
             ((refusal_by self.old.settings self.old.store.tree commands.now ≡ None)
             × NumbersFit (batching self.old.settings) self.old.settings self.old.store
@@ -190,8 +194,8 @@ impl<D: Disk> Store<D> {
         Ok(replies)
     }
 
-    /// Looks at every page, whether the tree is proper. It always is, so the answer is the report: how many pages the tree
-    /// has, how many levels, and how many pairs. It is refused only for lack of memory, with `Fault::NoMemory`.
+    /// Checks every page of the tree. The tree is always proper, so the result is a report: the numbers of pages, of
+    /// levels and of pairs. Fails only with `Fault::NoMemory`.
     pub fn verify(&self, rt: &(impl Threads + Sync)) -> Result<Report, Fault>
         ensures ok { IfOk result (λ reported. reported ≡ report self.now.store.tree) }
         ensures err { IfErr result (λ fault. fault ≡ NoMemory) }
@@ -201,7 +205,7 @@ impl<D: Disk> Store<D> {
         verify::verify(rt, self.alloc, &self.tree, &self.settings)
     }
 
-    /// Gives the store up, and its disk back.
+    /// Closes the store and returns its disk. Does not flush.
     pub fn close(self) -> D
         ensures { result ≡ self.disk }
     {

@@ -1,4 +1,4 @@
-//! Whether a disk holds nothing but what an unfinished attempt to make a store leaves.
+//! Detects disks on which the creation of a store was interrupted.
 ghost use Rattle.std.specs.Prelude.{◌≡◌, ◌+◌, ◌≤◌, IsTrue, length, take, drop, IfOk};
 ghost use Rattle.flush_log.specs.Disk.{Kept, CountsFailure, OnlyRead};
 ghost use Rattle.engine.specs.Hidden.{are_zeros, hides_block, is_unfinished};
@@ -35,7 +35,7 @@ fn are_zeros(bytes: &[u8]) -> bool
     bytes.iter().all(|byte| *byte == 0)
 }
 
-// Whether the disk has zeros alone from a place on, as many as the buffer has bytes.
+// Whether the disk has only zeros from a place on, as many as the buffer has bytes.
 fn reads_zeros<D: Disk>(disk: &mut D, at: u64, buf: &mut [u8]) -> Result<bool, DiskFault>
     requires { at + length buf.old ≤ (D.view disk.old).size }
     ensures kept { Kept (D.view disk.old) (D.view disk.new) }
@@ -48,7 +48,7 @@ fn reads_zeros<D: Disk>(disk: &mut D, at: u64, buf: &mut [u8]) -> Result<bool, D
     Ok(are_zeros(buf))
 }
 
-// Whether the disk has zeros alone. Reads it up to the piece that has another byte.
+// Whether the disk has only zeros. Reads it up to the piece that has another byte.
 fn has_only_zeros<D: Disk>(disk: &mut D) -> Result<bool, DiskFault>
     ensures kept { Kept (D.view disk.old) (D.view disk.new) }
     ensures failed { CountsFailure result (D.failed disk.old) (D.failed disk.new) }
@@ -69,19 +69,20 @@ fn has_only_zeros<D: Disk>(disk: &mut D) -> Result<bool, DiskFault>
     Ok(true)
 }
 
-/// Returns whether the disk holds what an attempt to make a store leaves if it is cut off: no bytes, zeros alone, or a valid settings block
-/// whose first byte is still 0, with anything after it. The attempts are `Store::create`, `Store::copy_to` and `open_or_create`. Such a disk
-/// holds no store. If the attempt was made over an old store, the pairs of that store cannot be read any more.
+/// Returns whether the disk has what an interrupted attempt to create a store leaves: no bytes, only zeros, or a valid
+/// settings block whose first byte is still 0, with anything after it. The attempts are `Store::create`,
+/// `Store::copy_to` and `open_or_create`. Such a disk has no store. If the attempt was made over an old store, the
+/// pairs of that store can no longer be read.
 ///
-/// Only reads: first 64 bytes, and then, if they do not decide, 4,096 bytes at a time up to the first piece that has a byte other than 0.
-/// So only a disk of zeros is read to its end. Fails with `DiskFault` if a read fails.
+/// Only reads: first 64 bytes, and then, if they do not decide, 4,096 bytes at a time up to the first piece that has a
+/// byte other than 0. So only a disk of zeros is read to its end. Fails with `DiskFault` if a read fails.
 pub fn is_unfinished<D: Disk>(disk: &mut D) -> Result<bool, DiskFault>
     ensures kept { Kept (D.view disk.old) (D.view disk.new) }
     ensures failed { CountsFailure result (D.failed disk.old) (D.failed disk.new) }
-    // On an honest disk: of what a read gives.
+    // On an honest disk: for its readable contents.
     ensures exact { IsTrue (D.view disk.old).is_honest →
         IfOk result (λ unfinished. unfinished ≡ is_unfinished (D.view disk.old).seen) }
-    // No byte changed, and nothing of what a crash may leave.
+    // Neither the bytes changed, nor what a crash may leave.
     ensures same { OnlyRead (D.view disk.old) (D.view disk.new) }
 {
     if hides_block(disk)? {

@@ -1,4 +1,4 @@
-//! The store of pages keeps what `OrderedStore` promises.
+//! The store of pages implements `OrderedStore`.
 use crate::ordered_store::OrderedStore;
 use crate::store::Store;
 use cleaner::laws::a_clean_keeps_the_store;

@@ -1,4 +1,4 @@
-//! Callers that know the trait alone, and crash.
+//! Callers that use the trait alone, with a crash in between.
 ghost use Rattle.std.specs.Prelude.{◌≡◌, ◌⊎◌, false, [], Result, IsTrue, IfOk};
 ghost use Rattle.keys.specs.declared.fault.Fault as faults;
 ghost use Rattle.keys.specs.Step.{replies_to, map_after_all};
@@ -10,11 +10,12 @@ use keys::{Command, Fault, Reply, Settings};
 use std::alloc::Global;
 use std::thread::Threads;
 
-/// Creates a store on a disk, executes the batch `puts`, and flushes. Then the machine crashes: `crash` turns the disk into any disk that a crash
-/// may leave of it. Opens the store again from this disk, and returns the replies to the batch `gets`.
+/// Creates a store on a disk, executes the batch `puts`, and flushes. Then the machine crashes: `crash` turns the disk
+/// into any disk that a crash may leave of it. Opens the store again from this disk, and returns the replies to the
+/// batch `gets`.
 ///
-/// If the disk is honest and every call succeeds, the replies are those of an ordered map on which `puts` and then `gets` were executed.
-/// Fails with the first fault of a call.
+/// If the disk is honest and every call succeeds, the replies are those of an ordered map on which `puts` and then
+/// `gets` were executed. Fails with the first fault of a call.
 pub fn put_then_get<
     D: Disk + Drop,
     R: Threads + Sync,
@@ -44,8 +45,8 @@ pub fn put_then_get<
     again.batch(rt, crew, gets)
 }
 
-/// Calls `put_then_get` on a disk in memory, which is honest, and whose crashes are proved to be crashes. `fill` says what a crash leaves of
-/// each range that was written but not synced.
+/// Calls `put_then_get` on a disk in memory, which is honest, and and whose simulated crashes are proved to be possible
+/// crashes. `fill` selects what a crash leaves in each range that was written but not synced.
 pub fn put_then_get_in_memory<R: Threads + Sync, S: OrderedStore<CrashDisk<Global>> + Drop>(
     rt: &R,
     alloc: Global,
@@ -65,12 +66,13 @@ pub fn put_then_get_in_memory<R: Threads + Sync, S: OrderedStore<CrashDisk<Globa
     put_then_get::<CrashDisk<Global>, R, S, _>(rt, alloc, crew, disk, chosen, puts, crash, gets)
 }
 
-/// Creates a store, executes the batch `first`, flushes, executes the batch `second`, and flushes again. The machine may crash at any moment
-/// of the second flush: the disk may then fail, and `crash` turns it into any disk that a crash may leave of it. Opens the store again from
-/// this disk. Returns whether the second flush succeeded, and the replies to the batch `gets`.
+/// Creates a store, executes the batch `first`, flushes, executes the batch `second`, and flushes again. The machine
+/// may crash at any moment of the second flush: the disk may then fail, and `crash` turns it into any disk that a crash
+/// may leave of it. Opens the store again from this disk. Returns whether the second flush succeeded, and the replies
+/// to the batch `gets`.
 ///
-/// If the disk is honest, the replies are those of an ordered map on which both batches were executed, or, unless the second flush
-/// succeeded, `first` alone. Fails with the first fault of a call other than the second flush.
+/// If the disk is honest, the replies are those of an ordered map on which both batches were executed, or, unless the
+/// second flush succeeded, `first` alone. Fails with the first fault of a call other than the second flush.
 pub fn put_twice_then_get<
     D: Disk + Drop,
     R: Threads + Sync,

@@ -1,4 +1,4 @@
-//! A play of steps on any store that implements the trait.
+//! Plays: lists of steps that are executed on any store that implements the trait.
 ghost use Rattle.std.specs.Prelude.{◌≡◌, ◌<◌, List, [], ◌∷◌, map, take, drop, length, IfOk, IfErr};
 ghost use Rattle.engine.specs.ClaimPlay.{IsTurnOf, IsStoppedOf, calls_of, members_of};
 ghost use Rattle.engine.specs.Plays.{answer_of, step_of};
@@ -37,11 +37,12 @@ fn do_step<D: Disk, R: Threads + Sync, S: OrderedStore<D>>(
     }
 }
 
-/// Executes the steps in their order, up to the first that fails, and returns the answer to each.
+/// Executes the steps in order, up to the first one that fails, and returns the answer to each.
 ///
-/// If a step fails, the error contains the place of the step, the answers to the steps before it, and the fault that its call returned. The
-/// store is then as the steps before it left it, except that `Device` leaves a failed store. If the list of answers cannot be allocated, the
-/// error is place 0 with `Fault::NoMemory`, and no step was executed.
+/// If a step fails, the error contains the place of the step, the answers to the steps before it, and the fault that
+/// its call returned. The store is then in the state after the steps before it, except that `Device` leaves a failed
+/// store. If the list of answers cannot be allocated, the error is place 0 with `Fault::NoMemory`, and no step was
+/// executed.
 pub fn play<D: Disk, R: Threads + Sync, S: OrderedStore<D>>(
     rt: &R,
     alloc: Global,

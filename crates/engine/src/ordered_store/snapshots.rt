@@ -1,4 +1,5 @@
-//! A second implementation of `OrderedStore`, as simple as the trait allows: an ordered map in memory, and a disk that keeps snapshots of it.
+//! A second implementation of `OrderedStore`, as simple as the trait allows: an ordered map in memory, and a disk that
+//! keeps snapshots of it.
 ghost use Rattle.std.specs.Prelude.{◌≡◌, ◌⊎◌, ◌+◌, ◌-◌, ◌^◌, ◌∷◌, ◌++◌, [], min, map, Some, None, false, IsErr, IfOk, IfErr, OnOk, OnErr};
 ghost use Rattle.std.specs.Option.{option_copied};
 ghost use Rattle.keys.specs.Bytes.{Bytes};
@@ -156,8 +157,8 @@ fn is_within(lo: &[u8], hi: Option<&[u8]>, key: &[u8]) -> bool
     !compare(key, lo).is_lt() && is_before(hi, key)
 }
 
-/// A disk in memory, which keeps each snapshot that a `SnapshotStore` flushes to it. A kept snapshot is durable. Only contracts see its bytes:
-/// calls that read or write any fail.
+/// A disk in memory, which keeps each snapshot that a `SnapshotStore` flushes to it. A kept snapshot is durable. Its
+/// bytes exist only in contracts: calls that read or write bytes fail.
 #[derive(Drop)]
 pub struct SnapshotDisk {
     // Oldest first.
@@ -256,8 +257,9 @@ impl Disk for SnapshotDisk {
     }
 }
 
-/// A store on a `SnapshotDisk`, for tests of programs that use `OrderedStore`. It copies all pairs in each batch and flush, and the disk keeps
-/// the copy of each flush. `clean` and `upgrade` always fail (`NothingToClean`, `AlreadyUpgraded`).
+/// A store on a `SnapshotDisk`, for tests of programs that use `OrderedStore`. It copies all pairs in each batch and
+/// flush, and the disk keeps the copy of each flush. `clean` and `upgrade` always fail (`NothingToClean`,
+/// `AlreadyUpgraded`).
 #[derive(Drop)]
 pub struct SnapshotStore {
     alloc: Global,

@@ -1,4 +1,4 @@
-//! Many cleans in turn, by one reading of the log.
+//! Many cleans in sequence, with one reading of the log.
 ghost use Rattle.std.specs.Prelude.{◌≡◌, ◌≢◌, ◌⊎◌, ℕ, ◌+◌, ◌-◌, ◌<◌, ◌≤◌, None, Some, Ok, Err, IsTrue, IfOk, IfErr, MatchResult, min, true, false};
 ghost use Rattle.keys.specs.Bytes.{Bytes};
 ghost use Rattle.flush_log.specs.Segments.{last_segment};
@@ -19,7 +19,8 @@ use frame_codec::Format;
 use keys::Fault;
 use std::thread::Threads;
 
-// What is answered if a clean is refused after `done` others: how many were done; but the fault if none was, or a call of the disk failed.
+// The result if a clean fails after `done` others: how many succeeded; but the fault if none did, or if a call of the
+// disk failed.
 fn after_some(fault: Fault, done: u64) -> Result<u64, Fault>
     ensures { MatchResult result
         (λ n. (n ≡ done) × (0 < done) × (fault ≢ Fault.Device))
@@ -32,12 +33,13 @@ fn after_some(fault: Fault, done: u64) -> Result<u64, Fault>
 }
 
 impl<D: Disk> Store<D> {
-    /// Reads the log once for its next `count` cleans, or for those of all segments in front of the last one if they are fewer.
-    /// `clean_by_reading` does these cleans by the result, a `cleaner::Reading`, one at a time. Nothing is written, and the store stays as it
-    /// is.
+    /// Reads the log once for its next `count` cleans, or for the cleans of all segments before the last one if these
+    /// are fewer. `clean_by_reading` then performs these cleans with the result, a `cleaner::Reading`, one at a time.
+    /// Nothing is written, and the store is unchanged.
     ///
-    /// The faults are those of `clean` until it writes: `Fault::NothingToClean` if the log is in one segment, the faults of a damaged log,
-    /// `Fault::NoMemory`, and `Fault::Device`, after which the store has failed. The store must not have failed before.
+    /// Fails like `clean` before it writes: with `Fault::NothingToClean` if the log is in one segment, with the faults
+    /// of a damaged log, with `Fault::NoMemory`, or with `Fault::Device`, after which the store has failed. The store
+    /// must not have failed before.
     pub fn read_ahead(
         &mut self,
         rt: &(impl Threads + Sync),
@@ -51,7 +53,7 @@ impl<D: Disk> Store<D> {
         ensures limit { IfOk result (λ reading. reading.limit ≡ self.old.store.head
             + min count (last_segment self.old.settings self.old.store.tail - self.old.store.head)) }
         ensures refused { IfErr result (IsRefusedClean D.view D.failed self.old self.new) }
-        // How many bytes live. If the log is refused for what it holds, it is not sound.
+        // The number of live bytes. If the log is refused because of its contents, it is damaged.
         ensures live { (file : Bytes) ×
             (IsTrue (D.view self.old.disk).is_honest → file ≡ (D.view self.old.disk).seen) ×
             MatchResult result
@@ -81,8 +83,9 @@ impl<D: Disk> Store<D> {
         }
     }
 
-    /// Cleans the first segment by a reading that has it (`Reading::has`), as `clean` does, but without reading the log. The reading must be
-    /// one of this store's log, which only such cleans have changed since; it then serves for the next clean. Drop it after an `Err`.
+    /// Cleans the first segment by a reading that has it (`Reading::has`), as `clean` does, but without reading the
+    /// log. The reading must be of this store's log, which only such cleans may have changed since; it can then be used
+    /// for the next clean. Drop it after an `Err`.
     pub fn clean_by_reading(&mut self, reading: &mut Reading) -> Result<u64, Fault>
         requires fine { self.old.has_failed ≡ false }
         requires read { IsReadFor D.view self.old reading.old }
@@ -111,8 +114,8 @@ impl<D: Disk> Store<D> {
         }
     }
 
-    // Cleans up to `most` segments, as long as the reading has them, and returns how many. Fails with how many were cleaned before the clean
-    // that was refused, and its fault.
+    // Cleans up to `most` segments, as long as the reading has them, and returns how many. Fails with the number of
+    // segments that were cleaned before the clean that failed, and its fault.
     pub(super) fn clean_all_read(
         &mut self,
         reading: &mut Reading,
@@ -143,8 +146,8 @@ impl<D: Disk> Store<D> {
         }
     }
 
-    // Cleans up to `most` segments by one reading of the log, and returns how many. If a clean is refused after the first, that ends it,
-    // and is no error unless a call of the disk failed.
+    // Cleans up to `most` segments by one reading of the log, and returns how many. A clean that fails after the first
+    // one ends the call, and is no error unless a call of the disk failed.
     pub(super) fn clean_ahead(
         &mut self,
         rt: &(impl Threads + Sync),
@@ -166,24 +169,26 @@ impl<D: Disk> Store<D> {
         }
     }
 
-    /// Makes up to `most` segments at the log's beginning free, one clean after the other, and returns how many. The log is read once for
-    /// all of them, where each call of `clean` reads it. Each clean is a commit of its own, with the bytes that `clean` writes.
+    /// Frees up to `most` segments at the beginning of the log, one clean after the other, and returns how many. The
+    /// log is read once for all of them, whereas each call of `clean` reads it. Each clean is a commit of its own, with
+    /// the bytes that `clean` writes.
     ///
-    /// It ends early if the log is in one segment, or if a later clean is refused, as by `Fault::Full` or `Fault::NoMemory` (so the number may
-    /// depend on memory); the store is then as after the cleans that were done. The faults are those of the first clean, as `clean` has them.
-    /// If a call of the disk fails in a later one, that is `Fault::Device`, too: the store has failed, and the disk stands for the same pages
-    /// still. If `most` is 0, nothing is done.
+    /// Ends early if the log is in one segment, or if a later clean fails, for example with `Fault::Full` or
+    /// `Fault::NoMemory` (so the number may depend on memory); the store is then in the state after the cleans that
+    /// succeeded. Fails like `clean` if the first clean fails. If a call of the disk fails in a later clean, the fault
+    /// is `Fault::Device`, too: the store has failed, and the disk still encodes the same pages. If `most` is 0, does
+    /// nothing.
     pub fn clean_many(
         &mut self,
         rt: &(impl Threads + Sync),
         crew: Crew,
         most: u64,
     ) -> Result<u64, Fault>
-        // So many cleans in turn, as a play of them does, whatever the disk does.
+        // As many cleans in sequence, as in a play of them, whatever the disk does.
         ensures done { IfOk result (λ n. (n ≤ most) × (0 < most → 0 < n)
             × AreCleaned D.view D.failed self.old n self.new) }
 
-        // Which fault, and what it leaves: the first clean is refused, or a call of the disk failed in a later one.
+        // Which fault, and the state after it: the first clean failed, or a call of the disk failed in a later one.
         ensures failed { self.old.has_failed ≡ true →
             (result ≡ Err Fault.Failed) × (self.new ≡ self.old) }
         ensures bad_crew { self.old.has_failed ≡ false → is_crew crew ≡ false →

@@ -38,8 +38,8 @@ use scan::Rows;
 use std::alloc::{AllocError, Global};
 use std::thread::Threads;
 
-// A compacted tree holds what the tree of the store held. With it the store is one as every store is, and stays in step with the bytes of
-// its disk.
+// A compacted tree has the pairs of the store's tree. With it, the store satisfies the invariant of stores and stays in
+// step with the bytes of its disk.
 fn a_compacted_tree_keeps_the_store_in_step()
     ensures holds { (s : Settings) (st : definitions.Store) → IsStore s st →
         contents (compacted s st.tree) ≡ contents st.tree }
@@ -106,7 +106,7 @@ fn leaves_at(alloc: Global, pids: &[u64]) -> Result<Table<Page<Global>, Global>,
     Ok(table)
 }
 
-// Frees the page of a page id, so that the log has an outdated page of it.
+// Frees the page of a page id; the log then has an outdated page of it.
 fn free_leaf(table: &mut Table<Page<Global>, Global>, pid: u64)
     ensures { (pids gone : List ℕ) → AreFreed pids gone table.old →
         AreFreed pids (gone ++ pid ∷ []) table.new }
@@ -128,7 +128,7 @@ fn free_leaves(table: &mut Table<Page<Global>, Global>, pids: &[u64])
     }
 }
 
-// A table without places, where the log has an outdated page of each of these page ids.
+// A table without places, with the log state `Old` for each of these page ids.
 fn outdated_table(alloc: Global, pids: &[u64]) -> Result<Table<Page<Global>, Global>, AllocError>
     ensures freed { IfOk result (λ table. AreFreed pids.now pids.now table) }
     ensures rising { IfOk result (λ table. AreRisingPids (keys_of table.logged)) }
@@ -142,7 +142,7 @@ fn outdated_table(alloc: Global, pids: &[u64]) -> Result<Table<Page<Global>, Glo
     Ok(table)
 }
 
-// The tree of one empty leaf, with what the log has of each page id in this table.
+// The tree of one empty leaf, with the log states of this table.
 fn first_tree_of(
     alloc: Global,
     table: Table<Page<Global>, Global>,
@@ -160,7 +160,7 @@ fn first_tree_of(
     Ok(Tree::new(table, Pid(0), 1))
 }
 
-// The tree of a new store, where the log has an outdated page of each page id of which it has anything now.
+// The tree of a new store, with the log state `Old` for each page id of which the log has anything now.
 fn outdated_tree(alloc: Global, tree: &Tree<Global>) -> Result<Tree<Global>, AllocError>
     requires home { AreAllHome tree.now }
     requires logs { AreLogsTrue (tree_of tree.now) }
@@ -185,7 +185,7 @@ fn all_puts(alloc: Global, tree: &Tree<Global>) -> Result<Vec<Command<Global>>, 
     Ok(puts)
 }
 
-// The compacted tree. The tree itself stays as it is.
+// The compacted tree. The tree itself is unchanged.
 fn compacted_tree(
     rt: &(impl Threads + Sync),
     crew: Crew,
@@ -206,8 +206,8 @@ fn compacted_tree(
     Ok(new)
 }
 
-// Whether there are fewer rows than `most`, and their keys and values have at most `room` bytes. It stops at the first row that is one
-// too many.
+// Whether there are fewer rows than `most`, and their keys and values have at most `room` bytes. It stops at the first
+// row that is one too many.
 fn are_few(rows: Rows<'_>, most: u64, room: u64) -> bool
     ensures { IsTrue result → length rows.entry < most }
 {
@@ -233,7 +233,7 @@ fn most_pairs(pages: u64, height: u32, fan: u32) -> u64
     entries / 4
 }
 
-// What is answered if a compaction is refused: that there is none; but `Fault::NoMemory` if an allocation failed.
+// The result if a compaction fails: no compacted tree, or `Fault::NoMemory` if an allocation failed.
 fn no_compacted(fault: Fault) -> Result<Option<Tree<Global>>, Fault>
     ensures none { IfOk result (λ o. o ≡ None) }
     ensures err { IfErr result (λ fault. fault ≡ NoMemory) }
@@ -245,7 +245,8 @@ fn no_compacted(fault: Fault) -> Result<Option<Tree<Global>>, Fault>
 }
 
 impl<D: Disk> Store<D> {
-    // Whether the tree has more pages than its pairs account for. It is never said of a tree whose pairs alone would fill the free segments.
+    // Whether the tree has more pages than its pairs account for. Returns false for a tree whose pairs alone would fill
+    // the free segments.
     fn is_bloated(&self) -> bool
         ensures { IsTrue result → IsTrue (is_bloated self.now.settings self.now.store.tree) }
     {
@@ -284,17 +285,19 @@ impl<D: Disk> Store<D> {
         }
     }
 
-    // Returns whether to count the pairs now. A small tree is counted at each flush, since that is cheap; of the flushes of a larger one, one
-    // in so many as it has 2,048 pages. It depends on what the store holds alone, as all that decides what is written must: not on the free
-    // page ids, which a reopened store has forgotten. The sequence numbers are scattered, since cleans, which count too, come in rows of
-    // equal length.
+    // Returns whether to count the pairs now. A small tree is counted at each flush, because that is cheap; a larger
+    // tree is counted at one of as many flushes as it has multiples of 2,048 pages. The decision depends only on the
+    // contents of the store, as everything must that determines what is written: not on the free page ids, which a
+    // reopened store does not know. The sequence numbers are scattered, because cleans, which also count, come in
+    // groups of equal length.
     fn is_time_to_count(&self) -> bool {
         let every = count_pages(&self.tree) / 2_048 + 1;
         let scattered = self.log.sequence.wrapping_mul(0x9e37_79b9_7f4a_7c15) >> 32;
         scattered % every == 0 || self.is_tight()
     }
 
-    // Returns whether at least two thirds of the log are in use and the tree is bloated. It looks only if it is time to.
+    // Returns whether at least two thirds of the log are in use and the tree is bloated. Checks only when
+    // `is_time_to_count` says so.
     fn may_be_compacted(&self) -> bool
         ensures { IsTrue result → IsTrue (is_two_thirds_full self.now.settings self.now.store)
             × IsTrue (is_bloated self.now.settings self.now.store.tree) }
@@ -321,14 +324,15 @@ impl<D: Disk> Store<D> {
         Ok(())
     }
 
-    /// Compacts the tree, as `compact` does, if at least two thirds of the log's segments are in use, the tree has more pages than its pairs
-    /// account for, and the flush of the compacted tree fits into the free segments. Else nothing changes. A tree has more pages than its
-    /// pairs account for if it has more than `4 * pairs / fan + 4 * height`. The store must not have failed, and the crew must be in range.
+    /// Compacts the tree, as `compact` does, if at least two thirds of the log's segments are in use, the tree has more
+    /// pages than its pairs account for, and the flush of the compacted tree fits into the free segments. Else nothing
+    /// changes. A tree has more pages than its pairs account for if it has more than `4 * pairs / fan + 4 * height`.
+    /// The store must not have failed, and the crew must be in range.
     ///
     /// Fails only with `Fault::NoMemory`. Then nothing changes.
     ///
-    /// If that many segments are in use, the pages are counted at each flush. So are the pairs if there are fewer than 2,048 pages; otherwise
-    /// they are counted more rarely, unless the log is tight.
+    /// If that many segments are in use, the pages are counted at each flush. So are the pairs if there are fewer than
+    /// 2,048 pages; otherwise they are counted more rarely, unless the log is tight.
     pub fn compact_if_bloated(
         &mut self,
         rt: &(impl Threads + Sync),
@@ -351,17 +355,20 @@ impl<D: Disk> Store<D> {
         Ok(())
     }
 
-    /// Builds the tree again from its pairs, as one batch that puts all of them into an empty store builds it: with as few leaves as the
-    /// pairs need. Returns how many pages fewer the store has, or 0 if it has more. Call it if `tidy` leaves many more pages.
+    /// Rebuilds the tree from its pairs, as one batch that puts all of them into an empty store would: with as few
+    /// leaves as the pairs need. Returns how many pages fewer the store has, or 0 if it has more. Call it if `tidy`
+    /// leaves many more pages.
     ///
-    /// It allocates the new pages, and a command for each pair, while the old pages are still there. The disk gets nothing before the next
-    /// flush. That flush writes every page, so the log needs free segments for the whole new tree. If it has too few, the flush fails with
-    /// `Fault::Full`, also for batches from before: so flush first. `copy_to` still works.
+    /// It allocates the new pages, and a command for each pair, while the old pages still exist. Nothing is written to
+    /// the disk before the next flush. That flush writes every page, so the log needs free segments for the whole new
+    /// tree. If it has too few, the flush fails with `Fault::Full`, and earlier batches cannot be flushed either, so
+    /// flush first. `copy_to` still works.
     ///
-    /// Fails with `Fault::Failed` if the store has failed, then with `Fault::BadCrew` if the crew is out of range. Else it fails with
-    /// `Fault::NoMemory`, or with `Fault::Spent` if the tree would have more than 64 levels. After an `Err` the store is unchanged.
+    /// Fails with `Fault::Failed` if the store has failed, then with `Fault::BadCrew` if the crew is out of range. Else
+    /// it fails with `Fault::NoMemory`, or with `Fault::Spent` if the tree would have more than 64 levels. After an
+    /// `Err` the store is unchanged.
     pub fn compact(&mut self, rt: &(impl Threads + Sync), crew: Crew) -> Result<u64, Fault>
-        // What it holds stays, and its tree is that of a batch of puts of all pairs on an empty tree.
+        // The contents are unchanged, and the tree is that of a batch that puts all pairs into an empty tree.
         ensures compacted { OnOk result
             (IsCompacted self.old.settings self.old.store self.new.store) }
         ensures pages { IfOk result (λ count.

@@ -8,8 +8,12 @@ ghost use Rattle.mapping.specs.Proper.{AreLevels, HoldsItsLevels};
 ghost use Rattle.mapping.specs.Tree.{most_levels, with_tree};
 ghost use Rattle.mapping.specs.TreeInMemory.{AreAllHome, tree_of};
 ghost use Rattle.flush_log.specs.Disk.{IsSynced, Kept, LeavesOnly};
+ghost use Rattle.flush_log.specs.NewStore.{disk_of_new};
 ghost use Rattle.recovery.specs.StoreOfDisk.{first_store, store_of_disk};
-ghost use Rattle.engine.specs.Copies.{HoldsSomeStore, IsBegun, IsCopyFault, IsLeftCopying, IsLeftFilling, IsPutFault, last_key, most_puts, put_of, puts_of};
+ghost use Rattle.keys.specs.declared.fault.Fault.TheVariants.{NoMemory};
+ghost use Rattle.engine.specs.Batches.{tree_in_turn};
+ghost use Rattle.engine.specs.Copies.{HoldsSomeStore, IsBegun, IsCopied, IsCopyFault, IsLeftCopying, IsLeftFilling, IsPutOn, IsPutRefused, after_filling, batches_of, last_key, most_puts, put_of, puts_of, refused_in_turn};
+ghost use Rattle.engine.specs.Hidden.{exchanged};
 ghost use Rattle.engine.specs.Late.{create_refusal};
 ghost use Rattle.engine.specs.Refusal.{is_crew};
 ghost use Rattle.engine.specs.State.{IsSound};
@@ -102,8 +106,14 @@ impl<D: Disk> Store<D> {
         ensures log { OnOk result (copy.new.store ≡ with_tree copy.old.store copy.new.store.tree) }
         ensures rest { (copy.new.settings ≡ copy.old.settings) × (copy.new.disk ≡ copy.old.disk)
             × (copy.new.has_failed ≡ copy.old.has_failed) }
-        ensures refused { IfErr result
-            (IsPutFault copy.old.settings (contents self.now.store.tree)) }
+        // Which pairs are left decides all: the first piece of them is put, or why it is refused.
+        ensures tree { (left : Pairs Bytes) →
+            contents copy.old.store.tree ++ left ≡ contents self.now.store.tree →
+            IfOk result (λ end. MatchOption end (copy.new ≡ copy.old) (λ key.
+            IsPutOn copy.old.settings copy.old.store.tree left copy.new.store.tree)) }
+        ensures refused { (left : Pairs Bytes) →
+            contents copy.old.store.tree ++ left ≡ contents self.now.store.tree →
+            IfErr result (IsPutRefused copy.old.settings copy.old.store.tree left) }
     {
         // Only for the proof.
         the_contents_of_a_proper_tree_rise();
@@ -133,8 +143,14 @@ impl<D: Disk> Store<D> {
         ensures log { OnOk result (copy.new.store ≡ with_tree copy.old.store copy.new.store.tree) }
         ensures rest { (copy.new.settings ≡ copy.old.settings) × (copy.new.disk ≡ copy.old.disk)
             × (copy.new.has_failed ≡ copy.old.has_failed) }
-        ensures refused { IfErr result
-            (IsPutFault copy.old.settings (contents self.now.store.tree)) }
+        ensures tree { OnOk result (
+            (copy.new.store.tree ≡ tree_in_turn copy.old.settings copy.old.store.tree
+            (batches_of (contents self.now.store.tree)))
+            × (refused_in_turn copy.old.settings copy.old.store.tree
+            (batches_of (contents self.now.store.tree)) ≡ None)) }
+        ensures refused { IfErr result (λ fault. (fault ≡ NoMemory)
+            ⊎ (refused_in_turn copy.old.settings copy.old.store.tree
+            (batches_of (contents self.now.store.tree)) ≡ Some fault)) }
     {
         let mut last = None;
         'batches: loop {
@@ -159,6 +175,11 @@ impl<D: Disk> Store<D> {
         requires crew { IsTrue (is_crew crew) }
         ensures contents { OnOk result
             (contents copy.new.store.tree ≡ contents self.now.store.tree) }
+        ensures exact { OnOk result (IsCopied copy.old.settings (contents self.now.store.tree)
+            copy.new.store) }
+        ensures written { IsTrue (E.view copy.old.disk).is_honest → OnOk result (
+            after_filling copy.old.settings (contents self.now.store.tree) (E.view copy.old.disk).seen
+            ≡ Ok (copy.new.store, (E.view copy.new.disk).seen)) }
         ensures rest { (copy.new.settings ≡ copy.old.settings)
             × Kept (E.view copy.old.disk) (E.view copy.new.disk) }
         ensures counted { OnOk result ((copy.new.has_failed ≡ false)
@@ -197,6 +218,11 @@ impl<D: Disk> Store<D> {
             × (copy.has_failed ≡ false)) }
         ensures contents { IfOk result (λ copy.
             contents copy.store.tree ≡ contents self.now.store.tree) }
+        ensures exact { IfOk result (λ copy.
+            IsCopied fresh.settings (contents self.now.store.tree) copy.store) }
+        ensures written { IsTrue (E.view fresh.disk).is_honest → IfOk result (λ copy.
+            after_filling fresh.settings (contents self.now.store.tree) (E.view fresh.disk).seen
+            ≡ Ok (copy.store, (E.view copy.disk).seen)) }
         ensures kept { IfOk result (λ copy. Kept (E.view fresh.disk) (E.view copy.disk)
             × (E.failed copy.disk ≡ E.failed fresh.disk)) }
         ensures bytes { IsSynced (E.view fresh.disk) → IfOk result (λ copy.
@@ -234,6 +260,12 @@ impl<D: Disk> Store<D> {
             × (copy.has_failed ≡ false)) }
         ensures contents { IfOk result (λ copy.
             contents copy.store.tree ≡ contents self.now.store.tree) }
+        ensures exact { IfOk result (λ copy.
+            IsCopied fresh.settings (contents self.now.store.tree) copy.store) }
+        ensures written { IsSynced (E.view fresh.disk.disk) → IfOk result (λ copy.
+            after_filling fresh.settings (contents self.now.store.tree)
+            (exchanged (E.view fresh.disk.disk).seen)
+            ≡ Ok (copy.store, (E.view copy.disk).seen)) }
         ensures kept { IfOk result (λ copy. Kept (E.view fresh.disk.disk) (E.view copy.disk)
             × (E.failed copy.disk ≡ E.failed fresh.disk.disk)) }
         ensures bytes { IsSynced (E.view fresh.disk.disk) → IfOk result (λ copy.
@@ -298,6 +330,12 @@ impl<D: Disk> Store<D> {
             (copy.settings ≡ settings) × (copy.has_failed ≡ false)) }
         ensures contents { IfOk result (λ copy.
             contents copy.store.tree ≡ contents self.now.store.tree) }
+        ensures exact { IfOk result (λ copy.
+            IsCopied settings (contents self.now.store.tree) copy.store) }
+        // On an honest disk: its bytes are a function of the pairs, the settings and the bytes that it held.
+        ensures written { IsTrue (E.view disk).is_honest → IfOk result (λ copy.
+            after_filling settings (contents self.now.store.tree)
+            (disk_of_new settings (E.view disk).seen) ≡ Ok (copy.store, (E.view copy.disk).seen)) }
         ensures kept { IfOk result (λ copy. Kept (E.view disk) (E.view copy.disk)
             × (E.failed copy.disk ≡ E.failed disk)) }
         // On an honest disk: it stands for this very store, and is settled.

@@ -1,4 +1,4 @@
-//! How a store is made: its first byte is written last, so that a crash leaves no store, or all of it.
+//! Creates stores. The first byte is written last, so that a crash leaves no store, or all of it.
 ghost use Rattle.std.specs.Prelude.{◌≡◌, ◌≢◌, [], Ok, Err, IsTrue, IfOk, IsErr, IfErr, OnOk, MatchOption, MatchResult, false};
 ghost use Rattle.mapping.specs.Levels.{contents};
 ghost use Rattle.mapping.specs.TreeInMemory.{new_in_memory};
@@ -18,7 +18,8 @@ use mapping::{Tree, new_tree};
 use recovery::laws::a_new_disk_stands_for_the_first_store;
 use std::alloc::Global;
 
-// Writes a new store to a disk, all but its first byte, and gives the tree. Nothing is written before all else has answered.
+// Writes a new store to a disk except for its first byte, and returns the tree. Nothing is written before all checks
+// and allocations have succeeded.
 fn make<D: Disk>(alloc: Global, disk: &mut D, settings: &Settings) -> Result<Tree<Global>, Fault>
     ensures refused { MatchOption (create_refusal settings.now (D.view disk.old).size)
         (IfErr result (IsLate (D.failed disk.old) (D.failed disk.new)))
@@ -42,7 +43,7 @@ fn make<D: Disk>(alloc: Global, disk: &mut D, settings: &Settings) -> Result<Tre
     Ok(tree)
 }
 
-// Makes a store on a disk that holds no store before it is revealed.
+// Creates a store on a disk that has no store until it is revealed.
 pub(super) fn create_hidden<D: Disk>(
     alloc: Global,
     disk: D,
@@ -89,7 +90,7 @@ pub(super) fn create_hidden<D: Disk>(
     }
 }
 
-// Makes the disk of a hidden store hold it.
+// Reveals a hidden store: writes and syncs the first byte.
 pub(super) fn reveal_store<D: Disk>(hidden: Store<Hidden<D>>) -> Result<Store<D>, (Fault, D)>
     ensures same { IfOk result (λ shown. (shown.settings ≡ hidden.settings)
         × (shown.store ≡ hidden.store) × (shown.has_failed ≡ hidden.has_failed)) }

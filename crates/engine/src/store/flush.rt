@@ -1,20 +1,18 @@
 //! The flush: what the log lacks is written, and a crash leaves the store of before or of after.
 ghost use Rattle.std.specs.Prelude.{◌≡◌, ◌≢◌, ◌⊎◌, [], Ok, Err, IsTrue, IfOk, IfErr, OnOk, true, false};
-ghost use Rattle.keys.specs.Bytes.{Bytes};
 ghost use Rattle.keys.specs.declared.fault.Fault.TheVariants.{NoMemory};
 ghost use Rattle.keys.specs.declared.version.Version as versions;
-ghost use Rattle.mapping.specs.Tree as definitions;
 ghost use Rattle.mapping.specs.TreeInMemory.{AreAllHome, tree_of};
-ghost use Rattle.flush_log.specs.AfterFlush.{slot_of, after_flush};
+ghost use Rattle.flush_log.specs.AfterFlush.{slot_of};
 ghost use Rattle.flush_log.specs.CommitPlan.{next_tail};
-ghost use Rattle.flush_log.specs.Disk.{IsSynced, Kept, LeavesOnly};
-ghost use Rattle.flush_log.specs.FlushText.{version_with, commit_frames, flush_frames, HasFrames};
-ghost use Rattle.flush_log.specs.declared.text.CommitKind.TheVariants as texts;
+ghost use Rattle.flush_log.specs.FlushText.{version_with, commit_frames, flush_frames};
 ghost use Rattle.recovery.specs.InStep.{IsStore};
-ghost use Rattle.recovery.specs.StoreOfDisk.{store_of_disk};
-ghost use Rattle.engine.specs.Calls.{after_writing, IsOwnText, IsToWrite, IsWriting, IsWritingFault, IsFlushFault};
+ghost use Rattle.engine.specs.Calls.{IsOwnText, IsToWrite, IsWriting};
+ghost use Rattle.engine.specs.OneStep.{IsStep, answer_by, step_by};
 ghost use Rattle.engine.specs.Refusal.{is_crew};
-ghost use Rattle.engine.specs.State.{IsSound, store_in};
+ghost use Rattle.engine.specs.State.{store_in};
+ghost use Rattle.engine.specs.Steps.Answer.{Flushed};
+ghost use Rattle.engine.specs.Steps.Step.{Flush};
 
 use crate::refusal::admit_crew;
 use crate::store::Store;
@@ -83,41 +81,10 @@ impl<D: Disk> Store<D> {
         requires fine { self.old.has_failed ≡ false }
         requires own { IsOwnText text self.old.store }
         requires due { IsToWrite text self.old.store }
-        ensures store { IfOk result (λ n. (n ≡ self.new.store.sequence)
-            × ((bytes : Bytes) ×
-            (after_writing text self.old.settings self.old.store (D.view self.old.disk).seen
-            ≡ Ok (self.new.store, bytes)))) }
+        // It is the step that writes the text, with a crew in range.
+        ensures step { IsStep D.view D.failed true self.old (step_by text) result
+            (λ n. answer_by text n) self.new }
         ensures version { OnOk result (self.new.store.version ≡ version_with text) }
-        ensures rest { (self.new.settings ≡ self.old.settings)
-            × Kept (D.view self.old.disk) (D.view self.new.disk) }
-
-        // Which fault, and what it leaves.
-        ensures refused { IfErr result (IsWritingFault text self.old.settings self.old.store
-            (D.view self.old.disk).seen (D.failed self.old.disk) (D.failed self.new.disk)) }
-        ensures unchanged { IfErr result (λ fault. fault ≢ Fault.Device → self.new ≡ self.old) }
-        ensures device { IfErr result (λ fault. fault ≡ Fault.Device →
-            (self.new.store ≡ self.old.store) × (self.new.has_failed ≡ true)) }
-        ensures counted { OnOk result ((self.new.has_failed ≡ self.old.has_failed)
-            × (D.failed self.new.disk ≡ D.failed self.old.disk)) }
-
-        // On an honest disk: these bytes, and settled; a crash at any moment of it leaves the store before, or these bytes.
-        ensures bytes { IsTrue (D.view self.old.disk).is_honest →
-            OnOk result
-            (after_writing text self.old.settings self.old.store (D.view self.old.disk).seen
-            ≡ Ok (self.new.store, (D.view self.new.disk).seen)) }
-        ensures is_synced { IsTrue (D.view self.old.disk).is_honest →
-            OnOk result (IsSynced (D.view self.new.disk)) }
-        ensures crash { IsSynced (D.view self.old.disk) →
-            LeavesOnly (D.view self.old.disk) (D.view self.new.disk)
-            (λ c. (store_of_disk c ≡ store_of_disk (D.view self.old.disk).seen)
-            ⊎ ((now : definitions.Store) ×
-            (after_writing text self.old.settings self.old.store (D.view self.old.disk).seen
-            ≡ Ok (now, c)))) }
-
-        ensures frames { OnOk result (HasFrames self.old.settings text self.old.store.tree) }
-        ensures frames_under_way { IfErr result
-            (λ fault. fault ≡ Fault.Device → HasFrames self.old.settings text self.old.store.tree) }
-        ensures sound { IsSound D.view self.old × IsSound D.view self.new }
     {
         // Only for the proof.
         what_was_flushed_is_what_is_read();
@@ -154,51 +121,12 @@ impl<D: Disk> Store<D> {
     /// `Fault::Device`, where a call of the disk failed. After `Device` the store has failed, and the disk holds the store of before or
     /// the one that it has; after any other fault all is as it was.
     pub fn flush(&mut self, rt: &(impl Threads + Sync), crew: Crew) -> Result<u64, Fault>
-        // Store and number, whatever the disk does.
-        ensures store { IfOk result (λ n. (n ≡ self.new.store.sequence)
-            × ((bytes : Bytes) ×
-            (after_flush self.old.settings self.old.store (D.view self.old.disk).seen
-            ≡ Ok (self.new.store, bytes)))) }
+        // It is the step of a flush, and answers the sequence number.
+        ensures step { IsStep D.view D.failed (is_crew crew) self.old Flush result
+            (λ n. Flushed n) self.new }
         ensures nothing { self.old.has_failed ≡ false → IsTrue (is_crew crew) →
             flush_frames self.old.store.version self.old.store.tree ≡ [] →
             (result ≡ Ok self.old.store.sequence) × (self.new ≡ self.old) }
-        ensures rest { (self.new.settings ≡ self.old.settings)
-            × Kept (D.view self.old.disk) (D.view self.new.disk) }
-
-        // Which fault, and what it leaves.
-        ensures failed { self.old.has_failed ≡ true → result ≡ Err Fault.Failed }
-        ensures bad_crew { self.old.has_failed ≡ false → is_crew crew ≡ false →
-            result ≡ Err Fault.BadCrew }
-        ensures refused { self.old.has_failed ≡ false → IsTrue (is_crew crew) →
-            IfErr result (IsFlushFault self.old.settings self.old.store (D.view self.old.disk).seen
-            (D.failed self.old.disk) (D.failed self.new.disk)) }
-        ensures unchanged { IfErr result (λ fault. fault ≢ Fault.Device → self.new ≡ self.old) }
-        ensures device { IfErr result (λ fault. fault ≡ Fault.Device →
-            (self.new.store ≡ self.old.store) × (self.new.has_failed ≡ true)) }
-        ensures counted { OnOk result ((self.new.has_failed ≡ self.old.has_failed)
-            × (D.failed self.new.disk ≡ D.failed self.old.disk)) }
-
-        // On an honest disk: these bytes, and settled; a crash at any moment of it leaves the store before, or these bytes.
-        ensures bytes { IsTrue (D.view self.old.disk).is_honest →
-            OnOk result (after_flush self.old.settings self.old.store (D.view self.old.disk).seen
-            ≡ Ok (self.new.store, (D.view self.new.disk).seen)) }
-        ensures is_synced { IsTrue (D.view self.old.disk).is_honest →
-            flush_frames self.old.store.version self.old.store.tree ≢ [] →
-            OnOk result (IsSynced (D.view self.new.disk)) }
-        ensures crash { self.old.has_failed ≡ false → IsSynced (D.view self.old.disk) →
-            LeavesOnly (D.view self.old.disk) (D.view self.new.disk)
-            (λ c. (store_of_disk c ≡ store_of_disk (D.view self.old.disk).seen)
-            ⊎ ((now : definitions.Store) ×
-            (after_flush self.old.settings self.old.store (D.view self.old.disk).seen
-            ≡ Ok (now, c)))) }
-
-        // The frames are such as a store may have, also where a call of the disk failed: the bytes of the flush under way stand for a store.
-        // The store was sound, and is so again.
-        ensures frames { OnOk result
-            (HasFrames self.old.settings (texts.Flush self.old.store.version) self.old.store.tree) }
-        ensures frames_under_way { IfErr result (λ fault. fault ≡ Fault.Device →
-            HasFrames self.old.settings (texts.Flush self.old.store.version) self.old.store.tree) }
-        ensures sound { IsSound D.view self.old × IsSound D.view self.new }
     {
         if self.has_failed {
             return Err(Fault::Failed);

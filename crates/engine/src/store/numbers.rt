@@ -1,4 +1,5 @@
-//! Numbers to run a store by: how full its log is, whether a flush is due and what it would add, and how many pairs there are.
+//! Numbers for operating a store: how full its log is, whether a flush is due and what it would add, and how many pairs
+//! there are.
 ghost use Rattle.std.specs.Prelude.{◌≡◌, ◌≢◌, ◌⊎◌, ◌↔◌, ◌+◌, ◌^◌, ◌-◌, ◌<◌, ◌≤◌, [], length, min, None, Ok, Err, IsTrue, IfOk, IfErr, true, false};
 ghost use Rattle.keys.specs.Limits.{first_bad_field};
 ghost use Rattle.keys.specs.declared.fault.Fault.TheVariants.{NoMemory};
@@ -43,47 +44,50 @@ fn in_use(settings: &Settings, log: LogEnds) -> u64
 }
 
 impl<D: Disk> Store<D> {
-    /// Whether a call of the disk has failed in a flush, an upgrade or a clean. Then every batch, flush, upgrade and clean answers
-    /// `Fault::Failed`, and so does `pending_bytes`; what the store holds is read as before, and `reopen` gives the store of the last
-    /// flush.
+    /// Returns whether a call of the disk has failed in a flush, an upgrade or a clean. Then every batch, flush,
+    /// upgrade and clean fails with `Fault::Failed`, and so does `pending_bytes`; reads still work, and `reopen`
+    /// returns the store of the last flush.
     pub fn has_failed(&self) -> bool
         ensures { result ≡ self.now.has_failed }
     {
         self.has_failed
     }
 
-    /// The sequence number: how many commits there were, the making of the store among them. Each flush that writes, each clean and each
-    /// upgrade makes it one greater, and after 2^62 they answer `Fault::Spent`.
+    /// Returns the sequence number: the number of commits, including the creation of the store. Each flush that writes,
+    /// each clean and each upgrade increments it; beyond 2^62 they fail with `Fault::Spent`.
     pub fn sequence(&self) -> u64
         ensures { result ≡ self.now.store.sequence }
     {
         self.log.sequence
     }
 
-    /// The number of the log's first segment. Numbers of segments only grow, and each clean makes this one greater.
+    /// Returns the number of the log's first segment. Segment numbers only grow, and each clean increments this one.
     pub fn head(&self) -> u64
         ensures { result ≡ self.now.store.head }
     {
         self.log.head
     }
 
-    /// The position where the log ends, in bytes: byte `offset` of segment n has the position `n * seg_size + offset`. It only
-    /// grows: by what a flush, an upgrade or a clean writes, with what it leaves of a segment.
+    /// Returns the position at which the log ends, in bytes: byte `offset` of segment n has the position `n * seg_size
+    /// + offset`. It only grows: by the bytes that a flush, an upgrade or a clean writes, and by the end of a segment
+    /// that stays unused.
     pub fn tail(&self) -> u64
         ensures { result ≡ self.now.store.tail }
     {
         self.log.tail
     }
 
-    /// How many segments the log may have, as the settings say. A flush leaves one of them free, and a clean may use it.
+    /// Returns the number of segments that the log may have, as in the settings. A flush leaves one of them free, which
+    /// a clean may use.
     pub fn segments(&self) -> u64
         ensures { result ≡ self.now.settings.segments }
     {
         u64::from(self.settings.segments)
     }
 
-    /// How many segments of the log are in use: from the first one to that in which the log ends. Where these are all but one, the next
-    /// flush that needs a further segment is `Fault::Full`, and a clean may help, which needs two in use.
+    /// Returns the number of segments in use, from the first one to the one in which the log ends. If all but one are
+    /// in use, the next flush that needs another segment fails with `Fault::Full`. A clean may help, if at least two
+    /// are in use.
     pub fn segments_in_use(&self) -> u64
         ensures exact { self.now.store.head + result
             ≡ last_segment self.now.settings self.now.store.tail + 1 }
@@ -93,21 +97,22 @@ impl<D: Disk> Store<D> {
         in_use(&self.settings, self.log)
     }
 
-    /// Whether a flush would write anything: whether the log lacks some of what the store holds. It takes no memory, and looks at the
-    /// pages that were taken since the last flush; after a recovery, and where memory was refused to the list of these, at the number of
-    /// runs of each page.
+    /// Returns whether a flush would write anything, that is, whether the log lacks a part of the store. Does not
+    /// allocate. Examines the pages that were checked out since the last flush; after a recovery, or if the list of
+    /// these pages could not be allocated, the number of runs of every page.
     pub fn is_flush_due(&self) -> bool
         ensures { IsTrue result ↔ (flush_frames self.now.store.version self.now.store.tree ≢ []) }
     {
         !is_all_written(&self.tree)
     }
 
-    /// How many bytes a flush would add to the log: the frames that the log lacks, and where these don't fit into the last segment, what
-    /// is left of it and the headers of those that are begun. 0, where the log has all. It makes the frames, as that flush would, and
-    /// takes their memory and a segment's; it calls no disk, and nothing changes.
+    /// Returns how many bytes a flush would add to the log: the frames that the log lacks, and if they do not fit into
+    /// the last segment, the unused end of that segment and the headers of new segments. Returns 0 if the log lacks
+    /// nothing. Encodes the frames as the flush would, and needs memory for them and for one segment. Calls no disk and
+    /// changes nothing.
     ///
-    /// A store that has failed is `Fault::Failed`, and then a crew out of range `Fault::BadCrew`. Else there are `Fault::NoMemory`, and
-    /// `Fault::Spent` or `Fault::Full`, with which that flush would be refused.
+    /// Fails with `Fault::Failed` if the store has failed, then with `Fault::BadCrew` if the crew is out of range.
+    /// Otherwise it may fail with `Fault::NoMemory`, or with the `Fault::Spent` or `Fault::Full` of that flush.
     pub fn pending_bytes(&self, rt: &(impl Threads + Sync), crew: Crew) -> Result<u64, Fault>
         ensures bytes { IfOk result (λ n. FlushAdds self.now.settings self.now.store n) }
         ensures nothing { self.now.has_failed ≡ false → IsTrue (is_crew crew) →
@@ -141,8 +146,8 @@ impl<D: Disk> Store<D> {
         Ok(slot.ends.tail - self.log.tail)
     }
 
-    /// How many pairs there are; 4,294,967,295 where there are more. It takes no memory, and walks over all pairs, as `range` without
-    /// bounds does.
+    /// Returns the number of pairs, or 4,294,967,295 if there are more. Does not allocate. Walks over all pairs, as
+    /// `range` without bounds does.
     pub fn pairs(&self) -> u64
         ensures { result ≡ min (length (contents self.now.store.tree)) (2 ^ 32 - 1) }
     {

@@ -25,18 +25,19 @@ use scan::{Rows, RowsBack, value_in};
 use std::alloc::{AllocError, Global};
 
 impl<D: Disk> Store<D> {
-    /// The value at the key, if there is one, lent out of its page. It costs one way down and a search in the leaf, and takes no
-    /// memory. The key may be of any length: one that is too long is not there. A store that has failed answers too.
+    /// Returns the value at the key, if there is one, borrowed from its page. Takes one descent and a search in the
+    /// leaf, and does not allocate. The key may have any length: the store has no key that is too long. Also works in a
+    /// store that has failed.
     pub fn get(&self, key: &[u8]) -> Option<&[u8]>
         ensures { option_copied result ≡ value_at key.now (contents self.now.store.tree) }
     {
         value_of(&self.tree, key)
     }
 
-    /// The first `limit` pairs whose keys are `lo` or above, and below `hi` where it is given, in key order. They are lent out
-    /// of the pages, and neither this nor the rows take memory. The bounds may be of any length, and are only looked at in this call:
-    /// the rows don't keep them. It costs one way down, and where `hi` is given one more, up to the first key from there on: over all leaves
-    /// that deletes have emptied there. A store that has failed answers too.
+    /// Returns the first `limit` pairs whose keys are at or above `lo` and below `hi` (if given), in key order,
+    /// borrowed from the pages. Neither this call nor the iterator allocates. The bounds may have any length, and are
+    /// not borrowed by the rows. Takes one descent; with `hi`, a second one, to the first key at or above `hi`, past
+    /// all leaves there that deletes have emptied. Also works in a store that has failed.
     pub fn range(&self, lo: &[u8], hi: Option<&[u8]>, limit: u32) -> Result<Rows<'_>, Fault>
         ensures succeeds { IsOk result }
         ensures rows { IfOk result (λ left. left
@@ -45,7 +46,7 @@ impl<D: Disk> Store<D> {
         Ok(Rows::new(self.alloc, &self.tree, lo, hi, limit))
     }
 
-    // The pairs of `range` in a list. It is refused only for lack of memory.
+    // Returns the pairs of `range` in a list. Fails only if allocation fails.
     pub(crate) fn list_range(
         &self,
         lo: &[u8],
@@ -59,9 +60,9 @@ impl<D: Disk> Store<D> {
         Ok(listed(self.alloc, self.range(lo, hi, limit)?)?)
     }
 
-    /// The last `limit` pairs whose keys are `lo` or above, and below `hi` where it is given, from the greatest key down. They are
-    /// lent as those of `range` are, and the bounds are only looked at in this call. It costs one way down, and one more where `lo`
-    /// isn't empty. A store that has failed answers too.
+    /// Returns the last `limit` pairs whose keys are at or above `lo` and below `hi` (if given), from the greatest key
+    /// down. They are borrowed as those of `range`, and the bounds are not borrowed. Takes one descent, and a second
+    /// one if `lo` is not empty. Also works in a store that has failed.
     pub fn range_back(&self, lo: &[u8], hi: Option<&[u8]>, limit: u32) -> RowsBack<'_>
         ensures { result
             ≡ rows_back lo.now (option_copied hi.entry) limit (contents self.now.store.tree) }
@@ -69,8 +70,9 @@ impl<D: Disk> Store<D> {
         RowsBack::new(self.alloc, &self.tree, lo, hi, limit)
     }
 
-    /// The pairs whose keys begin with these bytes, in key order: all pairs, where there are no bytes. They are lent as those of
-    /// `range` are, and the bytes are only looked at in this call. It costs two ways down. A store that has failed answers too.
+    /// Returns the pairs whose keys begin with these bytes, in key order: all pairs if there are no bytes. They are
+    /// borrowed as those of `range`, and the bytes are not borrowed. Takes two descents. Also works in a store that has
+    /// failed.
     pub fn prefix(&self, bytes: &[u8]) -> Rows<'_>
         ensures { result ≡ with_prefix bytes.now (contents self.now.store.tree) }
     {
@@ -99,7 +101,7 @@ fn value_of<'a>(tree: &'a Tree<Global>, key: &[u8]) -> Option<&'a [u8]>
     }
 }
 
-// What the leaf holds in whose range the key is: it has at the key what the tree has there.
+// The contents of the leaf whose range contains the key: it has at the key what the tree has there.
 fn chain_for<'a>(tree: &'a Tree<Global>, key: &[u8]) -> &'a Chain<Value<Global>, Global>
     requires home { AreAllHome tree.now }
     requires held { HoldsItsLevels (tree_of tree.now) }
@@ -127,7 +129,7 @@ fn leaf_for(tree: &Tree<Global>, key: &[u8]) -> Pid
     pid
 }
 
-// What the leaf under this page id holds, as it lies in memory.
+// The contents of the leaf with this page id, as they are in memory.
 fn leaf_under<'a>(tree: &'a Tree<Global>, pid: Pid) -> &'a Chain<Value<Global>, Global>
     requires home { AreAllHome tree.now }
     requires leaf { (page : Page Bytes) ×

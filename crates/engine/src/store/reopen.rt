@@ -1,4 +1,4 @@
-//! A store comes back: from the disk that holds it, or from its own.
+//! Opens stores: from a disk, or again from a store's own disk.
 ghost use Rattle.std.specs.Prelude.{◌≡◌, ◌≢◌, Err, false, IsTrue, IfOk, IfErr, OnOk};
 ghost use Rattle.keys.specs.Bytes.{Bytes};
 ghost use Rattle.flush_log.specs.Disk.{CountsFailure, IsSynced, Kept, Leaves, Same};
@@ -32,25 +32,26 @@ fn settle<D: Disk>(disk: &mut D) -> Result<(), DiskFault>
 }
 
 impl<D: Disk> Store<D> {
-    /// Opens the store that the disk holds: its pages, root, height and settings are those that were flushed last, and its log has the
-    /// version that it had then. It writes nothing.
+    /// Opens the store on the disk: its pages, root, height and settings are those of the last flush or upgrade, and
+    /// its log has the version that it had then. Writes nothing.
     ///
-    /// The disk has to be settled: synced since it was last written to, as by a flush, an upgrade, a clean or a `reopen` that answered Ok, or
-    /// by the caller's own `sync`. Of a disk that isn't, the store is read all the same, but a crash may take back what was read: all that is
-    /// promised of crashes is promised from a settled disk on.
+    /// The disk should be synced: after its last write it had a sync, for example by a flush, an upgrade, a clean or a
+    /// `reopen` that returned Ok, or by the caller's own `sync`. The store is also read from a disk that is not synced,
+    /// but then a crash may undo what was read: all guarantees about crashes begin at a synced disk.
     ///
-    /// A crew out of range is `Fault::BadCrew`. A disk that holds no store is refused with exactly one fault, as `recovery::recover`
-    /// says: `Fault::NotAStore`, `Fault::NoSlot`, `Fault::BadSegment`, `Fault::BadFrame` or `Fault::BadStructure`. Besides there are
-    /// `Fault::NoMemory`, and `Fault::Device` where a read failed. After an `Err` the disk is handed back as it was.
+    /// Fails with `Fault::BadCrew` if the crew is out of range. If there is no store on the disk, fails with exactly
+    /// one fault, as described at `recovery::recover`: `Fault::NotAStore`, `Fault::NoSlot`, `Fault::BadSegment`,
+    /// `Fault::BadFrame` or `Fault::BadStructure`. It may also fail with `Fault::NoMemory`, or with `Fault::Device` if
+    /// a read failed. The disk is returned with the fault, unchanged.
     pub fn recover(
         rt: &(impl Threads + Sync),
         alloc: Global,
         disk: D,
         crew: Crew,
     ) -> Result<Store<D>, (Fault, D)>
-        // The crew comes before the disk is called.
+        // The crew is checked before the disk is called.
         ensures bad_crew { is_crew crew ≡ false → result ≡ Err (Fault.BadCrew, disk) }
-        // Of bytes that were read, whatever the disk does; on an honest one these are what a read gives.
+        // For the bytes that were read, whatever the disk does; on an honest disk these are its readable contents.
         ensures read { IsTrue (is_crew crew) →
             (file : Bytes) × IsReadOf (D.view disk) file
             × IsOpened D.failed file (D.failed disk) result }
@@ -58,7 +59,7 @@ impl<D: Disk> Store<D> {
             IsOpened D.failed (D.view disk).seen (D.failed disk) result }
         ensures fine { IfOk result (λ opened. opened.has_failed ≡ false) }
 
-        // No byte changed, and nothing of what a crash may leave.
+        // Neither the bytes changed, nor what a crash may leave.
         ensures same { IsTrue (D.view disk).is_honest →
             Same (D.view disk) (D.view (disk_left result)) }
         ensures kept { Kept (D.view disk) (D.view (disk_left result)) }
@@ -89,18 +90,18 @@ impl<D: Disk> Store<D> {
         }
     }
 
-    /// Opens the store of a disk that another program may have left between its write and its sync: syncs the disk, and then does as
-    /// `Store::recover`, so that all that is promised of crashes holds from here on. It writes nothing.
+    /// Opens the store on a disk that another program may have left between a write and its sync: syncs the disk and
+    /// then does the same as `Store::recover`, so that all guarantees about crashes hold from here on. Writes nothing.
     ///
-    /// A crew out of range is `Fault::BadCrew`, and where a call of the disk failed there is `Fault::Device`; else as `Store::recover`.
-    /// After an `Err` the disk is handed back, with what a read gives as it was.
+    /// Fails with `Fault::BadCrew` if the crew is out of range, with `Fault::Device` if a call of the disk failed, and
+    /// otherwise like `Store::recover`. The disk is returned with the fault; its readable contents are unchanged.
     pub fn open(
         rt: &(impl Threads + Sync),
         alloc: Global,
         disk: D,
         crew: Crew,
     ) -> Result<Store<D>, (Fault, D)>
-        // The crew comes before the disk is called.
+        // The crew is checked before the disk is called.
         ensures bad_crew { is_crew crew ≡ false → result ≡ Err (Fault.BadCrew, disk) }
         ensures read { IsTrue (is_crew crew) →
             (file : Bytes) × IsReadOf (D.view disk) file
@@ -109,7 +110,8 @@ impl<D: Disk> Store<D> {
             IsOpened D.failed (D.view disk).seen (D.failed disk) result }
         ensures fine { IfOk result (λ opened. opened.has_failed ≡ false) }
 
-        // What a read gives stays; the disk is settled where it is Ok, and a crash meanwhile leaves what it might have left before.
+        // The readable contents are unchanged. After Ok the disk is synced, and a crash during the call leaves what it
+        // might have left before.
         ensures seen { IsTrue (D.view disk).is_honest →
             (D.view (disk_left result)).seen ≡ (D.view disk).seen }
         ensures is_synced { IsTrue (D.view disk).is_honest →
@@ -131,10 +133,10 @@ impl<D: Disk> Store<D> {
         }
     }
 
-    /// Gives up what the store has in memory, and opens the store that its disk holds, as `Store::open` does: that of the last flush or
-    /// upgrade. So a store goes on that has failed (`Fault::Failed`).
+    /// Drops the store's contents in memory, and opens the store on its disk, as `Store::open` does: the store of the
+    /// last flush or upgrade. Use it to continue with a store that has failed (`Fault::Failed`).
     pub fn reopen(self, rt: &(impl Threads + Sync), crew: Crew) -> Result<Store<D>, (Fault, D)>
-        // The crew comes before the disk is called.
+        // The crew is checked before the disk is called.
         ensures bad_crew { is_crew crew ≡ false → result ≡ Err (Fault.BadCrew, self.disk) }
         ensures read { IsTrue (is_crew crew) →
             (file : Bytes) × IsReadOf (D.view self.disk) file
@@ -143,7 +145,8 @@ impl<D: Disk> Store<D> {
             IsOpened D.failed (D.view self.disk).seen (D.failed self.disk) result }
         ensures fine { IfOk result (λ opened. opened.has_failed ≡ false) }
 
-        // What a read gives stays; the disk is settled where it is Ok, and a crash meanwhile leaves what it might have left before.
+        // The readable contents are unchanged. After Ok the disk is synced, and a crash during the call leaves what it
+        // might have left before.
         ensures seen { IsTrue (D.view self.disk).is_honest →
             (D.view (disk_left result)).seen ≡ (D.view self.disk).seen }
         ensures is_synced { IsTrue (D.view self.disk).is_honest →

@@ -24,8 +24,8 @@ fn room_in(settings: &Settings, count: u64) -> u64
     count * (u64::from(settings.seg_size) - SEGMENT_HEADER_SIZE)
 }
 
-// How many bytes of frames a log can have if cleans are to make room. The end of a segment, where the next frame did not fit, is taken to have
-// about half a leaf of small pairs.
+// How many bytes of frames a log can have if cleans are to make room. The unused end of a segment, where the next frame
+// did not fit, is assumed to have the size of about half a leaf of small pairs.
 fn most_live(settings: &Settings) -> u64
     requires checked { first_bad_field settings.now ≡ None }
     ensures exact { result ≡ most_live settings.now }
@@ -59,10 +59,11 @@ fn with_images(bytes: u64, images: &[Image]) -> u64
 }
 
 impl<D: Disk> Store<D> {
-    /// Returns whether the log has 16 segments or more, of which fewer than three are free. A flush leaves at least one free. A clean may need
-    /// two, and seldom more, since it also copies what pages of the first segment have in other segments. So `flush_cleaning` may clean a
-    /// tight log, even if the flush would fit. A smaller log is never tight: there a row of cleans is a single one, after which few segments
-    /// are still free, so a call that is repeated after `Fault::NoMemory` would clean a second segment, and leave other bytes.
+    /// Returns whether the log has 16 segments or more, of which fewer than three are free. A flush leaves at least one
+    /// free. A clean may need two, and seldom more, because it also copies frames that pages of the first segment have
+    /// in other segments. So `flush_cleaning` may clean a tight log, even if the flush would fit. A smaller log is
+    /// never tight: there a row of cleans is a single one, after which few segments are still free, so a call that is
+    /// repeated after `Fault::NoMemory` would clean a second segment, and leave other bytes.
     pub fn is_tight(&self) -> bool
         ensures { result ≡ is_tight self.now.settings self.now.store }
     {
@@ -76,8 +77,8 @@ impl<D: Disk> Store<D> {
         2 * u64::from(self.settings.segments) <= self.segments_in_use().saturating_mul(3)
     }
 
-    /// Returns whether a row of cleans is worth its cost: whether, of the bytes that the segments in use have room for, at least a segment
-    /// and a sixteenth are dead. The reading must be one of this store's log, from `read_ahead`.
+    /// Returns whether a row of cleans is worth its cost: whether, of the bytes that the segments in use have room for,
+    /// at least a segment and a sixteenth are dead. The reading must be one of this store's log, from `read_ahead`.
     pub fn is_worth_cleaning(&self, reading: &Reading) -> bool
         ensures { result ≡ is_worth self.now.settings self.now.store reading.now.live }
     {
@@ -86,10 +87,11 @@ impl<D: Disk> Store<D> {
         least <= room.saturating_sub(reading.live())
     }
 
-    /// Returns whether the bytes that live, by this reading of the store's log, and the bytes that a flush would write are more than the log
-    /// can have when cleans are to make room. A flush leaves one segment free. The end of a segment, where the next frame did not fit, stays
-    /// unused: it is taken to have 32 bytes for each entry of a page (`fan`), but at most an eighth of the segment. Cleans copy frames as they
-    /// are, so they make no room then, or hardly any at a high cost. This call makes the frames, as that flush would.
+    /// Returns whether the live bytes in this reading of the store's log and the bytes that a flush would write are
+    /// together more than the log can have if cleans are to make room. A flush leaves one segment free. The end of a
+    /// segment, where the next frame did not fit, stays unused: it is assumed to have 32 bytes for each entry of a page
+    /// (`fan`), but at most an eighth of the segment. Cleans copy frames unchanged, so they then make no room, or
+    /// hardly any at a high cost. This call encodes the frames, as that flush would.
     ///
     /// Fails only with `Fault::NoMemory`. Nothing changes.
     pub fn is_overfull(

@@ -1,4 +1,5 @@
-//! Tidying: leaves that deletes have emptied join their neighbours, by batches that change nothing of what the store holds.
+//! Tidying: merges leaves that deletes have emptied into their neighbours, by batches that do not change the contents
+//! of the store.
 ghost use Rattle.std.specs.Prelude.{◌≡◌, ◌-◌, Err, IsTrue, IfOk, OnOk, IfErr, true, false};
 ghost use Rattle.std.specs.Option.{option_copied};
 ghost use Rattle.keys.specs.Bytes.{Bytes, Pairs};
@@ -32,14 +33,14 @@ struct ThinLeaf {
     parent: u64,
 }
 
-// Which of these leaves a batch of tidying has commands for.
+// For which of these leaves a batch of tidying has commands.
 #[derive(Clone, Copy, PartialEq, Eq)]
 enum Stage {
-    // Those that have fewer than `chain` runs: each gets one more.
+    // Those with fewer than `chain` runs: each gets one more.
     Fill,
-    // Of those that are replaced by their next run one of each parent, or all, where the parent is replaced by its next run too.
+    // Of the leaves that their next run replaces: one of each parent, or all if the next run also replaces the parent.
     JoinOne,
-    // All of those.
+    // All leaves that their next run replaces.
     JoinAll,
 }
 
@@ -60,8 +61,8 @@ fn index_depth(tree: &Tree<Global>, pid: u64) -> Option<u64> {
     Some(page.as_index()?.depth())
 }
 
-// Adds those children of a page that are leaves with few pairs, while there are fewer than `most`. The first child stays: leaves join the
-// one before them.
+// Adds those children of a page that are leaves with few pairs, while there are fewer than `most`. The first child is
+// left out, because leaves are merged into the leaf before them.
 fn push_thin_children(
     tree: &Tree<Global>,
     parent: u64,
@@ -98,7 +99,7 @@ fn thin_leaves(
     Ok(thin)
 }
 
-// The low keys of those of the leaves that the stage has commands for.
+// The low keys of the leaves for which the stage has commands.
 fn due_lows<'a>(
     alloc: Global,
     tree: &'a Tree<Global>,
@@ -129,7 +130,8 @@ fn due_lows<'a>(
     Ok(due)
 }
 
-// What the batch of this number is for: `chain` batches fill, and as many and one more join.
+// The stage of the batch with this number: the first `chain` batches fill, the next `chain` join one leaf of each
+// parent, and the last one joins all.
 fn stage_of(number: u32, chain: u32) -> Stage {
     if number < chain {
         Stage::Fill
@@ -151,7 +153,8 @@ pub(crate) fn count_pages(tree: &Tree<Global>) -> u64
     count
 }
 
-// Adds commands on a key that change nothing of a map which has this value there: a put of it, or where there is none a put and a delete.
+// Appends commands on a key that do not change a map that has this value there: a put of the value, or if there is
+// none, a put and a delete.
 fn push_neutral(
     alloc: Global,
     key: &[u8],
@@ -173,7 +176,7 @@ fn push_neutral(
 }
 
 impl<D: Disk> Store<D> {
-    // Commands for those of these leaves that the stage names, which change nothing of what the store holds.
+    // Commands for the leaves of this stage that do not change the contents of the store.
     fn neutral_batch(&self, thin: &[ThinLeaf], stage: Stage) -> Result<Vec<Command<Global>>, Fault>
         ensures neutral { IfOk result (λ commands.
             map_after_all (contents self.now.store.tree) commands.items
@@ -190,7 +193,7 @@ impl<D: Disk> Store<D> {
         Ok(commands)
     }
 
-    // Executes one batch that changes nothing of what the store holds, for those of the leaves that the stage names, where there are some.
+    // Executes one batch for the leaves of this stage, if there are any. It does not change the contents of the store.
     fn tidy_once(
         &mut self,
         rt: &(impl Threads + Sync),
@@ -213,26 +216,29 @@ impl<D: Disk> Store<D> {
         Ok(())
     }
 
-    /// Merges leaves that deletes and wipes have left with fewer than a quarter of `fan` pairs into the leaves before them, at most `most`
-    /// of them, and returns how many pages went. Such a leaf is replaced only once it has more than `chain` runs, and no command comes
-    /// to it again where keys only move on, as those of a queue. So it gets commands here that change nothing of what the store holds,
-    /// in batches which all of these leaves share: in `chain` of them each gets runs, until the next one replaces it; then one leaf of
-    /// each parent joins the one before it with each batch, so that the parent gets runs too, and is replaced and joins its neighbour
-    /// where few children are left; and in the last, the batch `2 chain + 1` at most, all that are left. The disk gets nothing of it
-    /// before the next flush.
+    /// Merges leaves that deletes and wipes have left with fewer than a quarter of `fan` pairs into the leaves before
+    /// them, at most `most` leaves, and returns by how many pages the store has shrunk. A leaf is replaced only when it
+    /// gets more than `chain` runs, and if keys only move on, as in a queue, no command goes to such a leaf any more.
+    /// So this call executes batches that do not change the contents of the store and that all these leaves share: the
+    /// first `chain` batches give each leaf runs, until its next run replaces it; the next `chain` batches each merge
+    /// one leaf of each parent, so that the parent gets runs too, and is itself replaced and merged if few children
+    /// remain; and batch number `2 chain + 1` merges all remaining ones. Nothing is written to the disk before the next
+    /// flush.
     ///
-    /// It looks at each page of the store once, counts them before and after, and takes memory for these leaves' page ids and the batches.
-    /// It is due where `verify` counts many more pages than the pairs account for (`docs/EMBEDDING.md`).
+    /// Examines each page of the store once, counts the pages before and after, and allocates the page ids of these
+    /// leaves and the batches. Call it if `verify` counts many more pages than the pairs account for
+    /// (`docs/EMBEDDING.md`).
     ///
-    /// A store that has failed is `Fault::Failed`, and then a crew out of range `Fault::BadCrew`. Else there are `Fault::NoMemory` and
-    /// `Fault::Spent`, as of a batch. After an `Err` the store holds what it held, in fewer pages where some batches were done.
+    /// Fails with `Fault::Failed` if the store has failed, then with `Fault::BadCrew` if the crew is out of range.
+    /// Otherwise it may fail with `Fault::NoMemory` or `Fault::Spent`, like a batch. After an `Err` the store has the
+    /// same contents, possibly in fewer pages if some batches were executed.
     pub fn tidy(
         &mut self,
         rt: &(impl Threads + Sync),
         crew: Crew,
         most: usize,
     ) -> Result<u64, Fault>
-        // What it holds stays, and its tree is what some batches leave, whatever is answered.
+        // The contents are unchanged, and the tree is the result of some batches, whether the call succeeds or not.
         ensures tidied { IsTidied self.old.settings self.old.store self.new.store }
         ensures pages { IfOk result (λ count.
             count ≡ counted_pages self.old.store.tree - counted_pages self.new.store.tree) }

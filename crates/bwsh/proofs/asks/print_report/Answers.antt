@@ -20,5 +20,5 @@ returns g c =
     let disk = g.D.Disk.view store.disk in
     let old = g.O.Write.contents c.args.out.now in
     let new = g.O.Write.contents c.print_numbers.new.out in
-    RunsOrder-still c.args.at.now.calls.mode disk.is_honest store.settings store.store disk.seen Verify tt old new c.print_numbers.result
+    RunsOrder-still c.args.at.now.calls.mode disk.is_honest store.settings store.store disk.seen Verify tt tt old new c.print_numbers.result
     (subst (λ (r : Report). Writes old new (shown_report r ∷ []) c.print_numbers.result) c.in_ok-report.ensures.ok c.print_numbers.ensures)

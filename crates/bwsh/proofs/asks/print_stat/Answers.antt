@@ -24,7 +24,7 @@ returns-in_err-print_numbers g c =
     let new = g.O.Write.contents c.print_numbers.new.out in
     let p = err_from_is_err_and c.from_residual-in_err-print_numbers.result c.from_residual-in_err-print_numbers.ensures.1 in
     let early = c.in_err-print_numbers.field-0.0 in
-    rw (p.1, p.2) (RunsOrder-still c.args.at.now.calls.mode disk.is_honest store.settings store.store disk.seen Stat tt old new (Err early)
+    rw (p.1, p.2) (RunsOrder-still c.args.at.now.calls.mode disk.is_honest store.settings store.store disk.seen Stat tt tt old new (Err early)
     (Writes-early old new (shown_numbers (numbers_of store.settings store.store) ∷ []) (shown_settings store.settings ∷ []) early
     (subst (λ (n : StoreNumbers). Writes old new (shown_numbers n ∷ []) (Err early)) c.numbers_of.ensures c.in_err-print_numbers.ensures)))
 
@@ -36,7 +36,7 @@ returns g c =
     let mid = g.O.Write.contents c.print_numbers.new.out in
     let new = g.O.Write.contents c.print_numbers-2.new.out in
     let end = c.print_numbers-2.result in
-    RunsOrder-still c.args.at.now.calls.mode disk.is_honest store.settings store.store disk.seen Stat tt old new end
+    RunsOrder-still c.args.at.now.calls.mode disk.is_honest store.settings store.store disk.seen Stat tt tt old new end
     (Writes-both old mid new (shown_numbers (numbers_of store.settings store.store) ∷ []) (shown_settings store.settings ∷ []) tt end
     (subst (λ (n : StoreNumbers). Writes old mid (shown_numbers n ∷ []) (Ok tt)) c.numbers_of.ensures c.in_ok-print_numbers.ensures)
     (subst (λ (s : Settings). Writes mid new (shown_settings s ∷ []) end) c.settings.ensures c.print_numbers-2.ensures))

@@ -20,5 +20,5 @@ returns g c =
     let disk = g.D.Disk.view store.disk in
     let old = g.O.Write.contents c.args.out.now in
     let new = g.O.Write.contents c.print_numbers.new.out in
-    RunsOrder-still c.args.at.now.calls.mode disk.is_honest store.settings store.store disk.seen Numbers tt old new c.print_numbers.result
+    RunsOrder-still c.args.at.now.calls.mode disk.is_honest store.settings store.store disk.seen Numbers tt tt old new c.print_numbers.result
     (subst (λ (n : StoreNumbers). Writes old new (shown_numbers n ∷ []) c.print_numbers.result) c.numbers_of.ensures c.print_numbers.ensures)

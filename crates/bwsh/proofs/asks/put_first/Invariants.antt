@@ -4,7 +4,7 @@ use Rattle.bwsh.specs.Shown.{shown_row}
 use Rattle.bwsh.proofs.ShowLemmas.{AreAdded}
 use Rattle.bwsh.proofs.asks.put_first.Given as goal
 
--- the lines of the first rows that are left are still to be added
+-- the lines of the remaining first rows are still to be added
 abbrev pub invariant-loop-key : goal.invariant-loop-key
 invariant-loop-key g l =
     AreAdded (g.O.Write.contents l.fn.out) l.fn.buffer.text.items (g.O.Write.contents l.out) l.buffer.text.items (flat_map shown_row (take l.limit l.fn.rows)) (flat_map shown_row (take l.left l.rows))

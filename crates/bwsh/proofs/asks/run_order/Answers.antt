@@ -31,7 +31,7 @@ returns-in-BadLine-clause-runs g c =
     let store = c.args.store.now in
     let disk = g.D.Disk.view store.disk in
     rw c.in-BadLine.is (RunsFirst-one mode disk.is_honest store.settings store.store disk.seen (BadLine c.in-BadLine.line c.in-BadLine.why) _ _ _ _ _
-    (RunsOrder-still mode disk.is_honest store.settings store.store disk.seen (BadLine c.in-BadLine.line c.in-BadLine.why) tt _ _ _ c.report_line.ensures))
+    (RunsOrder-still mode disk.is_honest store.settings store.store disk.seen (BadLine c.in-BadLine.line c.in-BadLine.why) tt tt _ _ _ c.report_line.ensures))
 
 pub returns-in-Lost-clause-runs : goal.returns-in-Lost-clause-runs
 returns-in-Lost-clause-runs g c =
@@ -114,7 +114,7 @@ returns-in-Back-clause-runs g c =
     let new = g.O.Write.contents c.print_back.new.out in
     let end = c.print_back.result in
     rw c.in-Back.is (RunsFirst-one mode disk.is_honest store.settings store.store disk.seen (Back c.in-Back.lo c.in-Back.hi c.in-Back.limit) _ _ _ _ _
-    (RunsOrder-still mode disk.is_honest store.settings store.store disk.seen (Back c.in-Back.lo c.in-Back.hi c.in-Back.limit) tt old new end
+    (RunsOrder-still mode disk.is_honest store.settings store.store disk.seen (Back c.in-Back.lo c.in-Back.hi c.in-Back.limit) tt tt old new end
     (subst (λ (hi : Option Bytes). Writes old new (shown_rows (rows_back c.in-Back.lo hi c.in-Back.limit (contents store.store.tree)) ∷ []) end) c.bound_of.ensures
     (subst (λ (lo : Bytes). Writes old new (shown_rows (rows_back lo (option_copied c.bound_of.result) c.in-Back.limit (contents store.store.tree)) ∷ []) end) c.as_bytes-in-Back.ensures c.print_back.ensures))))
 
@@ -127,7 +127,7 @@ returns-in-Prefix-clause-runs g c =
     let new = g.O.Write.contents c.print_prefix.new.out in
     let end = c.print_prefix.result in
     rw c.in-Prefix.is (RunsFirst-one mode disk.is_honest store.settings store.store disk.seen (Prefix c.in-Prefix.bytes c.in-Prefix.limit) _ _ _ _ _
-    (RunsOrder-still mode disk.is_honest store.settings store.store disk.seen (Prefix c.in-Prefix.bytes c.in-Prefix.limit) tt old new end
+    (RunsOrder-still mode disk.is_honest store.settings store.store disk.seen (Prefix c.in-Prefix.bytes c.in-Prefix.limit) tt tt old new end
     (subst (λ (bytes : Bytes). Writes old new (shown_rows (take c.in-Prefix.limit (with_prefix bytes (contents store.store.tree))) ∷ []) end) c.as_bytes-in-Prefix.ensures c.print_prefix.ensures)))
 
 pub returns-in-Help-clause-runs : goal.returns-in-Help-clause-runs
@@ -140,7 +140,7 @@ returns-in-Help-clause-runs g c =
     let end = c.write_bytes.result in
     let written = c.write_bytes.ensures in
     rw c.in-Help.is (RunsFirst-one mode disk.is_honest store.settings store.store disk.seen Help _ _ _ _ _
-    (RunsOrder-still mode disk.is_honest store.settings store.store disk.seen Help tt old new end
+    (RunsOrder-still mode disk.is_honest store.settings store.store disk.seen Help tt tt old new end
     (subst (λ (text : Bytes). Writes old new (text ∷ []) end) c.as_bytes-in-Help.ensures.value (Writes-one old new c.as_bytes-in-Help.result.now end written.ok written.err written.device))))
 
 -- the settings stay, and whether the disk is honest, and the store has failed

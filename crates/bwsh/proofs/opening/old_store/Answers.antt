@@ -13,7 +13,7 @@ returns-in_err-store-clause-opens g c =
     let (file, opens) = c.in_err-store.ensures.opens in
     (file, rw (p.1, p.2) opens)
 
--- the lock is not given up
+-- the lock is kept
 pub returns-in_err-file_failed-clause-opens : goal.returns-in_err-file_failed-clause-opens
 returns-in_err-file_failed-clause-opens g c =
     let p = err_from_is_err_and c.from_residual-in_err-file_failed.result c.from_residual-in_err-file_failed.ensures.1 in

@@ -3,7 +3,7 @@ use Rattle.std.proofs.lemmas.List.{take_rest}
 use Rattle.std.proofs.KnownBytes.{Appends-trans}
 use Rattle.bwsh.proofs.output.write_bytes.Goals as goal
 
--- the bytes that were taken go over to the front
+-- the bytes that were written move to the first part
 taken_over : (all front rest : List ℕ) (n : ℕ) → all ≡ front ++ rest → all ≡ (front ++ take n rest) ++ take (length rest - n) (drop n rest)
 taken_over all front rest n e =
     e ∙ ap (λ (l : List ℕ). front ++ l) (sym (take-append-drop n rest))

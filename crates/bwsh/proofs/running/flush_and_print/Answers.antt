@@ -6,7 +6,7 @@ use Rattle.bwsh.proofs.FlushLemmas.{cut_from, done_failed, done_from, settings_s
 use Rattle.bwsh.proofs.RunLemmas.{err_device, no_device_in}
 use Rattle.bwsh.proofs.running.flush_and_print.Goals as goal
 
--- the output failed in the lines of the cleans
+-- the output failed while the lines of the cleans were written
 pub returns-in_err-print_cleans-clause-runs : goal.returns-in_err-print_cleans-clause-runs
 returns-in_err-print_cleans-clause-runs g c mode room first by =
     let done = c.flush_cleaning-done in

@@ -3,7 +3,7 @@ use Rattle.bwsh.specs.declared.order.Order.TheVariants.{Flush}
 use Rattle.bwsh.proofs.TidiedLemmas.{RunsOrder-tidied, TidiesTo-batches, untidy}
 use Rattle.bwsh.proofs.running.flush_tidied.Goals as goal
 
--- flushes make themselves room
+-- flushes clean when the log is full
 pub returns-then-at-clause-runs : goal.returns-then-at-clause-runs
 returns-then-at-clause-runs g c first by = c.flush_and_print.ensures.runs c.args.at.now.mode c.if-at.true first by
 

@@ -7,9 +7,6 @@ use Rattle.bwsh.specs.Session.{head_lines}
 use Rattle.bwsh.proofs.FlushLemmas.{one_cut, one_printed}
 use Rattle.bwsh.proofs.running.print_cleans.Goals as goal
 
--- GUESSES: the names of the goals and of `c.loop-segment-test`, after `with_image` of the engine; that `segment + 1` does not overflow, since
--- `segment < last`
-
 pub loop-segment-init : goal.loop-segment-init
 loop-segment-init g c = (0, omega arith, omega arith, Appends-nil (g.O.Write.contents c.args.out.now))
 

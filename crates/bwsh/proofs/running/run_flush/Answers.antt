@@ -10,7 +10,7 @@ use Rattle.bwsh.proofs.TidiedLemmas.{RunsOrder-late, RunsOrder-untidied, TidiesT
 use Rattle.bwsh.proofs.running.run_flush.Goals as goal
 use Rattle.bwsh.proofs.running.run_flush.Goals.{else-at-via-then-at+else-is_err, else-at-via-else-at}
 
--- the flush is refused, since the store couldn't be tidied
+-- the flush is refused, because the store could not be tidied
 pub returns-then-is_err-clause-runs : goal.returns-then-is_err-clause-runs
 returns-then-is_err-clause-runs g c =
     let mode = c.args.at.now.mode in
@@ -34,7 +34,7 @@ returns-then-is_err-clause-rest g c =
       held_by store.settings by.tidying store.store ready.store by.leaves,
     )
 
--- what is so of the flush of the tidied store is so of the store that has its settings, on the same disk
+-- what holds for the flush of the tidied store holds for the store with its settings, on the same disk
 pub returns-in_err-flush_tidied-clause-runs : goal.returns-in_err-flush_tidied-clause-runs
 returns-in_err-flush_tidied-clause-runs g c =
     let mode = c.args.at.now.mode in

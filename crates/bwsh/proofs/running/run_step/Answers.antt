@@ -24,10 +24,12 @@ returns-in-Ok-clause-runs g c mode order is plain =
     RunsOrder-answered mode disk.is_honest store.settings store.store disk.seen order c.args.step is plain
     (λ cs. c.the_plan_holds_the_map_after_the_commands.ensures store.settings store.store cs sound.good sound.proper)
     (λ now file bytes done. (c.a_clean_keeps_the_store.ensures.memory store.settings store.store now file bytes done).0)
-    c.in-Ok.answers.items after.store (g.D.Disk.view after.disk).seen c.in-Ok.ensures.ok c.in-Ok.ensures.bytes old new end shown
+    c.in-Ok.answers.items after.store (g.D.Disk.view after.disk).seen c.in-Ok.ensures.turn.played c.in-Ok.ensures.turn.bytes old new end shown
 
 pub returns-in-Ok-clause-rest : goal.returns-in-Ok-clause-rest
-returns-in-Ok-clause-rest g c = (c.play.ensures.rest.0, c.play.ensures.rest.1.honest, λ other. c.in-Ok.ensures.counted.0)
+returns-in-Ok-clause-rest g c =
+    let turn = c.in-Ok.ensures.turn in
+    (turn.settings, turn.kept.honest, λ other. turn.has_failed)
 
 pub returns-in-Ok-clause-holds : goal.returns-in-Ok-clause-holds
 returns-in-Ok-clause-holds g c order is same =
@@ -37,7 +39,7 @@ returns-in-Ok-clause-holds g c order is same =
     answered_holds (untidy c.args.at.now.mode) disk.is_honest store.settings store.store disk.seen order c.args.step is (λ flush. refl)
     (λ cs. c.the_plan_holds_the_map_after_the_commands.ensures store.settings store.store cs sound.good sound.proper)
     (λ now file bytes done. (c.a_clean_keeps_the_store.ensures.memory store.settings store.store now file bytes done).0)
-    c.in-Ok.answers.items c.play.new.self.store c.in-Ok.ensures.ok ∙ same
+    c.in-Ok.answers.items c.play.new.self.store c.in-Ok.ensures.turn.played ∙ same
 
 pub returns-in-Ok-clause-kept : goal.returns-in-Ok-clause-kept
 returns-in-Ok-clause-kept g c =
@@ -54,26 +56,34 @@ returns-in-Err-clause-runs g c mode order is plain =
     let after = c.play.new.self in
     let bytes = (g.D.Disk.view after.disk).seen in
     let out = g.O.Write.contents c.args.out.now in
+    let left = c.in-Err.ensures.stopped in
     let (file, shown, refused) = c.in-Err.ensures.refused c.requires.fine c.args.at.now.crew_in_range in
     RunsOrder-refused mode disk.is_honest store.settings store.store disk.seen order c.args.step is plain out _ after.store file bytes _ _ c.in-Err.refused.0 c.in-Err.refused.2 c.store_fault.result
-    c.in-Err.ensures.err.0 c.store_fault.ensures c.in-Err.ensures.err.1 shown c.in-Err.ensures.bytes refused
+    c.in-Err.ensures.place c.store_fault.ensures left.played shown (λ honest other. (left.turn other).bytes honest) refused
 
 pub returns-in-Err-clause-rest : goal.returns-in-Err-clause-rest
 returns-in-Err-clause-rest g c =
-    (c.play.ensures.rest.0, c.play.ensures.rest.1.honest, λ other. (c.in-Err.ensures.counted (no_device_in c.in-Err.refused.2 c.store_fault.result c.store_fault.ensures (err_device c.store_fault.result other))).0)
+    let left = c.in-Err.ensures.stopped in
+    (left.rest.0, left.rest.1.honest, λ other. (left.turn (no_device_in c.in-Err.refused.2 c.store_fault.result c.store_fault.ensures (err_device c.store_fault.result other))).has_failed)
 
 pub returns-in-Err-clause-holds : goal.returns-in-Err-clause-holds
 returns-in-Err-clause-holds g c order is same =
     let store = c.args.store.now in
     let disk = g.D.Disk.view store.disk in
     ap (λ (s : Store). contents s.tree)
-    (refused_store disk.is_honest store.settings store.store disk.seen c.args.step _ c.play.new.self.store c.in-Err.refused.0 c.in-Err.ensures.err.0 c.in-Err.ensures.err.1)
+    (refused_store disk.is_honest store.settings store.store disk.seen c.args.step _ c.play.new.self.store c.in-Err.refused.0 c.in-Err.ensures.place c.in-Err.ensures.stopped.played)
 
 pub returns-in-Err-clause-kept : goal.returns-in-Err-clause-kept
 returns-in-Err-clause-kept g c other =
     let store = c.args.store.now in
     let disk = g.D.Disk.view store.disk in
     let after = c.play.new.self in
-    let left = c.in-Err.ensures in
+    let left = c.in-Err.ensures.stopped in
     refused_leaves disk.is_honest store.settings store.store disk.seen c.args.step _ after.store (g.D.Disk.view after.disk).seen c.in-Err.refused.0 c.in-Err.refused.2
-    store.has_failed after.has_failed left.err.0 left.err.1 left.bytes (λ unlike. (left.counted unlike).0) (no_device_in c.in-Err.refused.2 c.store_fault.result c.store_fault.ensures other)
+    store.has_failed after.has_failed c.in-Err.ensures.place left.played (λ honest other. (left.turn other).bytes honest) (λ unlike. (left.turn unlike).has_failed) (no_device_in c.in-Err.refused.2 c.store_fault.result c.store_fault.ensures other)
+
+pub returns-in-Ok-clause-size : goal.returns-in-Ok-clause-size
+returns-in-Ok-clause-size g c = c.in-Ok.ensures.turn.kept.size
+
+pub returns-in-Err-clause-size : goal.returns-in-Err-clause-size
+returns-in-Err-clause-size g c = c.in-Err.ensures.stopped.rest.1.size

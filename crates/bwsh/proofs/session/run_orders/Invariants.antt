@@ -3,7 +3,7 @@ use Rattle.bwsh.specs.Source.{IsToCome}
 use Rattle.bwsh.proofs.LoopLemmas.{Continues}
 use Rattle.bwsh.proofs.session.run_orders.Given as goal
 
--- what the orders that can still come print after what was printed is what some orders print that could come at first
+-- the output of the orders that can still come, after the output so far, is the output of some orders that were possible at first
 abbrev pub invariant-loop : goal.invariant-loop
 invariant-loop g l = record {
   settings : l.store.settings ≡ l.fn.store.settings;

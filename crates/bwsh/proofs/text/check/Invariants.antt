@@ -4,7 +4,8 @@ use Rattle.bwsh.specs.Line.{parse_line}
 use Rattle.bwsh.specs.BatchFile.{parse_text, first_bad, line_writes}
 use Rattle.bwsh.proofs.text.check.Given as goal
 
--- the first bad line of those that are left is that of the text, and what was written so far, and they write, is what the text writes
+-- the first bad line of the remaining ones is that of the text; and whether a line so far or a remaining one writes to the disk is whether the text
+-- does
 abbrev pub invariant-loop-bytes : goal.invariant-loop-bytes
 invariant-loop-bytes l = record {
   numbered : l.number + length l.bytes-iterator ≤ length l.fn.text;

@@ -5,7 +5,7 @@ use Rattle.climb_plan.proofs.Installing.{tree_put}
 use Rattle.engine.specs.Tasks.{task_held, taken_of, under_pids}
 use Rattle.engine.proofs.leaves.put_back.Given as goal
 
--- the places of the leaves that tasks which are left hold are away, and these put into the tree now are all put into the tree before
+-- the places of the leaves in the remaining tasks are empty; putting these into the tree now equals putting all into the tree before
 abbrev pub invariant-loop-task : goal.invariant-loop-task
 invariant-loop-task l = record {
   away : AreAway l.tree.table (map (λ h. h.route.pid) (taken_of (map task_held (into_iter_items l.task-iterator))));

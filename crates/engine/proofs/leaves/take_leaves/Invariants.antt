@@ -6,8 +6,8 @@ use Rattle.engine.specs.Leaves.{route_pids, written_routes, AreLeavesHome}
 use Rattle.engine.specs.Tasks.{task_for, task_held}
 use Rattle.engine.proofs.leaves.take_leaves.Given as goal
 
--- the leaves that are left are at home; the tasks so far and what is left hold what all held; those of them that may be changed, taken
--- from the tree now, are all taken from the tree before; and there is room for the rest
+-- the remaining leaves are in the table; the tasks so far and the rest hold what all held; checking out those of the rest that may be changed from
+-- the tree now equals checking out all of them from the tree before; and there is room for the rest
 abbrev pub invariant-loop-page_run : goal.invariant-loop-page_run
 invariant-loop-page_run l = record {
   home : AreLeavesHome l.tree.table (route_pids (into_iter_items l.page_run-iterator));

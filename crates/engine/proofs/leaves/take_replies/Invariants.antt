@@ -7,8 +7,8 @@ use Rattle.engine.specs.Leaves.{without_answers}
 use Rattle.engine.specs.Tasks.{changed_of, pieces_of}
 use Rattle.engine.proofs.leaves.take_replies.Given as goal
 
--- the answers of the leaves that are left make of the replies, if they were not refused, what all make of the blanks; their places are
--- within these; the leaves that were changed go onto the list, and there is room for the rest
+-- adding the answers of the remaining leaves to the replies, if no allocation failed, equals adding all answers to blank replies; their places are
+-- within these; the changed leaves go onto the list, and there is room for the rest
 abbrev pub invariant-loop-done : goal.invariant-loop-done
 invariant-loop-done l = record {
   count : IfOk l.replies (λ rs. length rs.items ≡ length l.commands);

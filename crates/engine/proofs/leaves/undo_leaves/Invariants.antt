@@ -4,7 +4,7 @@ use Rattle.climb_plan.specs.Installing.{AreAway}
 use Rattle.climb_plan.proofs.Installing.{tree_put}
 use Rattle.engine.proofs.leaves.undo_leaves.Given as goal
 
--- the places of the leaves that are left are away, and these put into the tree now are all put into the tree before
+-- the places of the remaining leaves are empty; putting these into the tree now equals putting all into the tree before
 abbrev pub invariant-loop-leaf : goal.invariant-loop-leaf
 invariant-loop-leaf l = record {
   away : AreAway l.tree.table (map (λ d. d.held.route.pid) (into_iter_items l.leaf-iterator));

@@ -7,7 +7,7 @@ use Rattle.replies.specs.ByPlace.{IsPlaceOf, blank_of, with_pieces}
 use Rattle.engine.specs.Leaves.{read_answers}
 use Rattle.engine.proofs.reads.replies_of.Given as goal
 
--- the answers of the leaves that are left make of the replies, if they were not refused, what all make of the blanks; their places are
+-- adding the answers of the remaining leaves to the replies, if no allocation failed, equals adding all answers to blank replies; their places are
 -- within these
 abbrev pub invariant-loop-read : goal.invariant-loop-read
 invariant-loop-read l = record {

@@ -3,7 +3,7 @@ use Rattle.flush_log.specs.Disk.{Kept, Same}
 use Rattle.engine.specs.Hidden.{are_zeros}
 use Rattle.engine.proofs.unfinished.has_only_zeros.Given as goal
 
--- the bytes in front of this place were read, and are zeros
+-- the bytes before this place were read, and are zeros
 abbrev pub invariant-pieces : goal.invariant-pieces
 invariant-pieces g l = record {
   within : l.at ≤ l.len;

@@ -3,7 +3,7 @@ use Rattle.bwsh.specs.declared.order.Order.{Order}
 use Rattle.bwsh.specs.Source.{IsToCome}
 use Rattle.bwsh.proofs.source.Source.next.Given as goal
 
--- what can come of what is left can come of all
+-- orders that can come from the remaining input can come from all
 abbrev pub invariant-loop : goal.invariant-loop
 invariant-loop g l = record {
   queued : l.self.queued ≡ None;

@@ -2,7 +2,7 @@ use Rattle.std.proofs.Common.{inl, inr, ⊎_elim, arith}
 use Rattle.engine.proofs.EarlyLemmas.{done_on, row_done, row_stopped}
 use Rattle.engine.proofs.store.Store.clean_row.Goals as goal
 
--- all segments of the row were cleaned that the reading has
+-- all segments of the row that the reading has were cleaned
 pub returns-in-Ok-clause-done : goal.returns-in-Ok-clause-done
 returns-in-Ok-clause-done g c =
     let (some, few, exact, on) = c.in-Ok.ensures.done in
@@ -10,7 +10,7 @@ returns-in-Ok-clause-done g c =
     let most = c.requires.few in
     (some, few, on, (omega (arith, exact, limit, most), inl (omega (arith, exact, limit, most))))
 
--- one was refused after some
+-- a clean was refused after some others
 pub returns-clause-done : goal.returns-clause-done
 returns-clause-done g c =
     let (n, fault) = c.in-Err.refused in

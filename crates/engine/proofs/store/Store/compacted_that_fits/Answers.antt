@@ -6,7 +6,7 @@ use Rattle.engine.proofs.CompactedStores.{compacted_sound}
 use Rattle.engine.proofs.PendingLemmas.{some-left}
 use Rattle.engine.proofs.store.Store.compacted_that_fits.Goals as goal
 
--- ---- it is refused, or has nothing to write
+-- ---- its flush is refused, or has nothing to write
 
 pub returns-in-Err : goal.returns-in-Err
 returns-in-Err g c = record {

@@ -4,7 +4,7 @@ use Rattle.engine.specs.Late.{create_refusal}
 use Rattle.engine.specs.Copies.{IsLeftCopying}
 use Rattle.engine.proofs.HiddenCopies.{begun_copying, begun_leaves}
 use Rattle.engine.proofs.HiddenStores.{none_leaves}
-use Rattle.engine.proofs.CopyDone.{made_refused, create_refused, made_back, made_left, made_ok, made_bytes}
+use Rattle.engine.proofs.CopyDone.{made_refused, create_refused, made_back, made_left, made_ok, made_bytes, made_exact, made_written}
 use Rattle.engine.proofs.store.Store.copy_to.Goals as goal
 
 pub returns-in-Err-clause-left : goal.returns-in-Err-clause-left
@@ -48,6 +48,17 @@ pub returns-in-Ok-clause-bytes : goal.returns-in-Ok-clause-bytes
 returns-in-Ok-clause-bytes g c honest =
     let made = c.in-Ok.ensures in
     made_bytes g.E.Disk.view c.fill_hidden.result c.in-Ok.fresh.settings c.args.settings made.made.0 (c.fill_hidden.ensures.bytes (made.bytes honest).1)
+
+pub returns-in-Ok-clause-exact : goal.returns-in-Ok-clause-exact
+returns-in-Ok-clause-exact g c =
+    made_exact c.fill_hidden.result c.in-Ok.fresh.settings c.args.settings (contents c.args.self.now.store.tree) c.in-Ok.ensures.made.0 c.fill_hidden.ensures.exact
+
+pub returns-in-Ok-clause-written : goal.returns-in-Ok-clause-written
+returns-in-Ok-clause-written g c honest =
+    let made = c.in-Ok.ensures in
+    let (created, is_synced) = made.bytes honest in
+    made_written g.E.Disk.view c.fill_hidden.result c.in-Ok.fresh.settings c.args.settings (contents c.args.self.now.store.tree) _ (g.E.Disk.view c.args.disk).seen _ made.made.0 created
+    (c.fill_hidden.ensures.written is_synced)
 
 -- ---- crashes
 

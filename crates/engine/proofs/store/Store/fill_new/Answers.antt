@@ -19,3 +19,9 @@ pub returns-in-Err-clause-crash : goal.returns-in-Err-clause-crash
 returns-in-Err-clause-crash g c is_synced =
     let view = g.E.Disk.view in
     subst (λ d. LeavesOnly (view c.args.fresh.disk) (view d) HoldsSomeStore) (sym c.close.ensures) (c.fill.ensures.crash is_synced)
+
+pub returns-in-Ok-clause-exact : goal.returns-in-Ok-clause-exact
+returns-in-Ok-clause-exact g c = c.in-Ok.ensures.exact
+
+pub returns-in-Ok-clause-written : goal.returns-in-Ok-clause-written
+returns-in-Ok-clause-written g c honest = c.in-Ok.ensures.written honest

@@ -3,7 +3,10 @@ use Rattle.std.proofs.lemmas.Result.{err_from_is_err_and}
 use Rattle.keys.specs.declared.fault.Fault.{Fault}
 use Rattle.keys.specs.declared.settings.Settings.{Settings}
 use Rattle.engine.specs.Cleaning.{IsStoppedCleaning, most_ahead}
+use Rattle.engine.specs.Refusal.{is_crew}
 use Rattle.engine.specs.State.{IsSound}
+use Rattle.engine.specs.Steps.Step.{Flush}
+use Rattle.engine.proofs.AsBefore.{step_as_before}
 use Rattle.engine.proofs.CleaningLemmas.{gone_on, not_gone_on, flushed_on, still_done, still_held, is_full, full_next, stopped_flush, read_done, stopped_reading, more_done, early_done, early_few, early_stopped, early_whole, stopped_by_row}
 use Rattle.engine.proofs.CleansLemmas.{none_cleaned}
 use Rattle.engine.proofs.store.Store.flush_in_rows.Goals as goal
@@ -45,7 +48,7 @@ pub returns-in-Ok-clause-flushed : goal.returns-in-Ok-clause-flushed
 returns-in-Ok-clause-flushed g c =
     let old = c.args.self.now in
     let (rows, done, sum, held) = c.room.invariant in
-    let ok = c.in-Ok.ensures in
+    let ok = step_as_before g.D.Disk.view g.D.Disk.failed (is_crew c.args.crew) Flush c.room.self c.step.new.self _ c.in-Ok.ensures in
     flushed_on g.D.Disk.view g.D.Disk.failed g.met.D.Disk.lawful old rows c.room.self done c.step.new.self c.in-Ok._flushed
     ok.ok ok.rest ok.counted c.requires.fine ok.bytes ok.is_synced ok.crash ok.sound.1 (omega (arith, sum))
 
@@ -55,7 +58,7 @@ returns-in_err-go_on-in-Err-clause-refused g c =
     let view = g.D.Disk.view in
     let failed = g.D.Disk.failed in
     let (rows, done, sum, held) = c.room.invariant in
-    let err = c.in-Err.ensures in
+    let err = step_as_before g.D.Disk.view g.D.Disk.failed (is_crew c.args.crew) Flush c.room.self c.step.new.self _ c.in-Err.ensures in
     let p = err_from_is_err_and c.from_residual-in_err-go_on-in-Err.result c.from_residual-in_err-go_on-in-Err.ensures.1 in
     let last = not_gone_on c.in-Err.fault c.in_err-go_on-in-Err.field-0.0 c.room.left c.in_err-go_on-in-Err.ensures in
     rw (p.1, p.2) (subst (λ (f : Fault). IsStoppedCleaning view failed old c.step.new.self f) (sym last.0)
@@ -67,14 +70,14 @@ returns-in_err-go_on-in-Err-clause-refused g c =
 pub reading_for_room-requires-clause-fine : goal.reading_for_room-requires-clause-fine
 reading_for_room-requires-clause-fine g c = λ κs within. (
     let (rows, done, sum, held) = c.room.invariant in
-    let err = c.in-Err.ensures in
+    let err = step_as_before g.D.Disk.view g.D.Disk.failed (is_crew c.args.crew) Flush c.room.self c.step.new.self _ c.in-Err.ensures in
     let (full, more, other) = gone_on c.in-Err.fault c.room.left c.in_ok-go_on-in-Err.ensures in
     (err.fine other).0 ∙ done.done.turn.has_failed ∙ c.requires.fine)
 
 pub reading_for_room-requires-clause-held : goal.reading_for_room-requires-clause-held
 reading_for_room-requires-clause-held g c = λ κs within. (
     let (rows, done, sum, held) = c.room.invariant in
-    let err = c.in-Err.ensures in
+    let err = step_as_before g.D.Disk.view g.D.Disk.failed (is_crew c.args.crew) Flush c.room.self c.step.new.self _ c.in-Err.ensures in
     let (full, more, other) = gone_on c.in-Err.fault c.room.left c.in_ok-go_on-in-Err.ensures in
     still_held g.D.Disk.view c.room.self c.step.new.self err.rest.0 err.rest.1 err.unchanged (λ h. err.same h other) c.room.held held)
 
@@ -82,7 +85,7 @@ reading_for_room-requires-clause-held g c = λ κs within. (
 pub reading_for_room-requires-clause-most : goal.reading_for_room-requires-clause-most
 reading_for_room-requires-clause-most g c = λ κs within. (
     let (rows, done, sum, held) = c.room.invariant in
-    let err = c.in-Err.ensures in
+    let err = step_as_before g.D.Disk.view g.D.Disk.failed (is_crew c.args.crew) Flush c.room.self c.step.new.self _ c.in-Err.ensures in
     c.most_ahead-ahead.ensures.exact ∙ sym (ap (λ (s : Settings). most_ahead s) (err.rest.0 ∙ done.done.turn.settings)))
 
 pub returns-in-Err-reading_for_room-clause-refused : goal.returns-in-Err-reading_for_room-clause-refused
@@ -92,7 +95,7 @@ returns-in-Err-reading_for_room-clause-refused g c =
     let failed = g.D.Disk.failed in
     let lawful = g.met.D.Disk.lawful in
     let (rows, done, sum, held) = c.room.invariant in
-    let err = c.in-Err.ensures in
+    let err = step_as_before g.D.Disk.view g.D.Disk.failed (is_crew c.args.crew) Flush c.room.self c.step.new.self _ c.in-Err.ensures in
     let (full, more, other) = gone_on c.in-Err.fault c.room.left c.in_ok-go_on-in-Err.ensures in
     let mid = still_done view failed lawful old rows c.room.self done c.step.new.self err.unchanged err.rest err.sound.1 (err.fine other) (λ h. err.same h other) in
     let is = is_full view failed lawful old rows c.room.self done c.step.new.self err.unchanged err.rest err.sound.1 c.in-Err.fault full (err.refused (done.done.turn.has_failed ∙ c.requires.fine) c.requires.crew) in
@@ -108,7 +111,7 @@ returns-in-Err-reading_for_room-clause-sound g c =
 pub clean_on-requires-clause-fine : goal.clean_on-requires-clause-fine
 clean_on-requires-clause-fine g c =
     let (rows, done, sum, held) = c.room.invariant in
-    let err = c.in-Err.ensures in
+    let err = step_as_before g.D.Disk.view g.D.Disk.failed (is_crew c.args.crew) Flush c.room.self c.step.new.self _ c.in-Err.ensures in
     let (full, more, other) = gone_on c.in-Err.fault c.room.left c.in_ok-go_on-in-Err.ensures in
     let (only, held_now, roomy) = c.in-Ok-reading_for_room.ensures.read in
     only.counted.0 ∙ (err.fine other).0 ∙ done.done.turn.has_failed ∙ c.requires.fine
@@ -123,7 +126,7 @@ returns-in-Err-clean_on-clause-refused g c =
     let failed = g.D.Disk.failed in
     let lawful = g.met.D.Disk.lawful in
     let (rows, done, sum, held) = c.room.invariant in
-    let err = c.in-Err.ensures in
+    let err = step_as_before g.D.Disk.view g.D.Disk.failed (is_crew c.args.crew) Flush c.room.self c.step.new.self _ c.in-Err.ensures in
     let (full, some, other) = gone_on c.in-Err.fault c.room.left c.in_ok-go_on-in-Err.ensures in
     let mid = still_done view failed lawful old rows c.room.self done c.step.new.self err.unchanged err.rest err.sound.1 (err.fine other) (λ h. err.same h other) in
     let is = is_full view failed lawful old rows c.room.self done c.step.new.self err.unchanged err.rest err.sound.1 c.in-Err.fault full (err.refused (done.done.turn.has_failed ∙ c.requires.fine) c.requires.crew) in
@@ -141,7 +144,7 @@ returns-in-Err-clean_on-clause-sound g c =
     let failed = g.D.Disk.failed in
     let lawful = g.met.D.Disk.lawful in
     let (rows, done, sum, held) = c.room.invariant in
-    let err = c.in-Err.ensures in
+    let err = step_as_before g.D.Disk.view g.D.Disk.failed (is_crew c.args.crew) Flush c.room.self c.step.new.self _ c.in-Err.ensures in
     let (full, some, other) = gone_on c.in-Err.fault c.room.left c.in_ok-go_on-in-Err.ensures in
     let mid = still_done view failed lawful old rows c.room.self done c.step.new.self err.unchanged err.rest err.sound.1 (err.fine other) (λ h. err.same h other) in
     let (only, held_now, roomy) = c.in-Ok-reading_for_room.ensures.read in
@@ -156,7 +159,7 @@ room-preserved g c =
     let failed = g.D.Disk.failed in
     let lawful = g.met.D.Disk.lawful in
     let (rows, done, sum, held) = c.room.invariant in
-    let err = c.in-Err.ensures in
+    let err = step_as_before g.D.Disk.view g.D.Disk.failed (is_crew c.args.crew) Flush c.room.self c.step.new.self _ c.in-Err.ensures in
     let (full, some, other) = gone_on c.in-Err.fault c.room.left c.in_ok-go_on-in-Err.ensures in
     let mid = still_done view failed lawful old rows c.room.self done c.step.new.self err.unchanged err.rest err.sound.1 (err.fine other) (λ h. err.same h other) in
     let is = is_full view failed lawful old rows c.room.self done c.step.new.self err.unchanged err.rest err.sound.1 c.in-Err.fault full (err.refused (done.done.turn.has_failed ∙ c.requires.fine) c.requires.crew) in

@@ -5,7 +5,7 @@ use Rattle.engine.specs.Refusal.{is_crew}
 use Rattle.engine.specs.Turns.{IsTurn}
 use Rattle.engine.proofs.store.Store.play.Given as goal
 
--- the steps so far are done, none by a crew out of range, and there is room for the answers of the rest
+-- the steps so far are done, none with a crew out of range, and there is room for the answers of the rest
 abbrev pub invariant-loop-step : goal.invariant-loop-step
 invariant-loop-step g l = record {
   len : vec_len l.answers ≡ l.step-index;

@@ -1,14 +1,15 @@
-use Rattle.std.proofs.Common.{◌∙◌, refl, ap, subst, arith}
+use Rattle.std.proofs.Common.{◌∙◌, refl, sym, ap, subst, arith}
 use Rattle.std.proofs.lemmas.Result.{err_from_is_err_and}
 use Rattle.keys.specs.declared.settings.Settings.{Settings}
 use Rattle.mapping.specs.Levels.{contents}
 use Rattle.mapping.specs.Tree.{Store, with_tree}
-use Rattle.engine.specs.Copies.{IsPutFault}
+use Rattle.engine.specs.Copies.{IsPutOn, IsPutRefused}
+use Rattle.engine.proofs.CopyChunks.{all_put, more_put, none_put, stopped_put}
 use Rattle.engine.proofs.CopyLemmas.{begun_empty, begun_within, at_some, at_none}
 use Rattle.engine.proofs.store.Store.put_all.Goals as goal
 
 pub batches-init : goal.batches-init
-batches-init g c = record { begun = begun_empty _ _ c.requires.empty; log = refl; settings = refl; disk = refl; fine = refl }
+batches-init g c = record { begun = begun_empty _ _ c.requires.empty; on = none_put c.args.copy.now.settings c.args.copy.now.store.tree (contents c.args.self.now.store.tree) c.requires.empty; log = refl; settings = refl; disk = refl; fine = refl }
 
 pub put_next-requires-clause-begun : goal.put_next-requires-clause-begun
 put_next-requires-clause-begun g c κs within = c.batches.invariant.begun
@@ -24,8 +25,24 @@ returns-in_err-key-clause-rest g c =
 
 pub returns-in_err-key-clause-refused : goal.returns-in_err-key-clause-refused
 returns-in_err-key-clause-refused g c =
+    let inv = c.batches.invariant in
+    let start = c.args.copy.now in
+    let all = contents c.args.self.now.store.tree in
     let p = err_from_is_err_and c.from_residual.result c.from_residual.ensures.1 in
-    rw (p.1, p.2) (subst (λ (s : Settings). IsPutFault s (contents c.args.self.now.store.tree) c.in_err-key.field-0.0) c.batches.invariant.settings c.in_err-key.ensures.refused)
+    let why = c.in_err-key.ensures.refused inv.on.left inv.on.whole in
+    rw (p.1, p.2) (stopped_put start.settings start.store.tree c.batches.copy.store.tree all inv.on _
+    (subst (λ (s : Settings). IsPutRefused s c.batches.copy.store.tree inv.on.left c.in_err-key.field-0.0) inv.settings why))
+
+pub returns-in-None-clause-tree : goal.returns-in-None-clause-tree
+returns-in-None-clause-tree g c =
+    let inv = c.batches.invariant in
+    let start = c.args.copy.now in
+    let all = contents c.args.self.now.store.tree in
+    let same = at_none _ _ _ (c.in_ok-key.ensures.tree inv.on.left inv.on.whole) c.in-None.is in
+    let holds = at_none _ _ _ c.in_ok-key.ensures.further c.in-None.is in
+    let there = ap (λ x. x.store.tree) same in
+    let (tree, none) = all_put start.settings start.store.tree c.batches.copy.store.tree all inv.on (ap contents (sym there) ∙ holds) in
+    (there ∙ tree, none)
 
 pub returns-in-None-clause-contents : goal.returns-in-None-clause-contents
 returns-in-None-clause-contents g c = at_none _ _ _ c.in_ok-key.ensures.further c.in-None.is
@@ -45,6 +62,8 @@ batches-preserved g c =
     let rest = c.put_next.ensures.rest in
     record {
       begun = (at_some _ _ _ _ c.in_ok-key.ensures.further c.in-Some.is).0;
+      on = more_put c.args.copy.now.settings c.args.copy.now.store.tree c.batches.copy.store.tree (contents c.args.self.now.store.tree) inv.on c.put_next.new.copy.store.tree
+          (subst (λ (s : Settings). IsPutOn s c.batches.copy.store.tree inv.on.left c.put_next.new.copy.store.tree) inv.settings (at_some _ _ _ _ (c.in_ok-key.ensures.tree inv.on.left inv.on.whole) c.in-Some.is));
       log = c.in_ok-key.ensures.log ∙ ap (λ (st : Store). with_tree st c.put_next.new.copy.store.tree) inv.log;
       settings = rest.0 ∙ inv.settings;
       disk = rest.1 ∙ inv.disk;

@@ -56,7 +56,7 @@ returns-in-Err-clause-refused g c = rw (← c.self.view_is) (
     c.is_of_disk-self-inside.result c.in-Err.fault Unit c.is_of_disk-self-inside.ensures
     (file, read, reported st refl refl) (λ honest. inl (c.read_for_cleans.ensures.same honest)) c.in-Err.ensures.uncounted)
 
--- ---- how many bytes live
+-- ---- the number of live bytes
 
 pub returns-in-Ok-clause-live : goal.returns-in-Ok-clause-live
 returns-in-Ok-clause-live g c = rw (← c.self.view_is) (let (file, read, known) = c.in-Ok.ensures.live in (file, read.honest, known))
@@ -69,7 +69,7 @@ returns-in-Err-clause-live g c = rw (← c.self.view_is) (
       ⊎_elim (λ nothing. inl nothing) (λ other. inr (⊎_elim (λ late. ⊎_elim (λ memory. inl memory) (λ device. inr (inl device.0)) late) (λ none. inr (inr none)) other)) why,
     ))
 
--- ---- how many segments it has
+-- ---- the number of its segments
 
 pub returns-in-Ok-clause-limit : goal.returns-in-Ok-clause-limit
 returns-in-Ok-clause-limit g c = rw (← c.self.view_is) c.in-Ok.ensures.limit.0

@@ -1,14 +1,17 @@
-use Rattle.std.proofs.Common.{◌≡◌, ◌≢◌, true, false, IfErr, inl, refl, sym, subst}
+use Rattle.std.proofs.Common.{◌≡◌, ◌≢◌, rules, true, false, IfErr, refl, sym, subst}
 use Rattle.std.proofs.lemmas.Result.{err_from_is_err_and}
+use Rattle.keys.specs.declared.fault.Fault.TheVariants.{AlreadyUpgraded}
 use Rattle.keys.specs.declared.version.Version.TheVariants.{Two}
 use Rattle.flush_log.specs.declared.text.CommitKind.TheVariants as texts
-use Rattle.flush_log.proofs.SameLemmas.{leaves_itself}
-use Rattle.recovery.proofs.ReadBytes.{kept_self}
-use Rattle.engine.specs.Calls.{IsWritingFault}
 use Rattle.engine.specs.Refusal.{is_crew}
 use Rattle.engine.specs.State.{IsSound}
+use Rattle.engine.specs.Steps.Answer.{Upgraded}
+use Rattle.engine.specs.Steps.Step.{Upgrade}
+use Rattle.engine.proofs.AsBefore.{text_as_before}
 use Rattle.engine.proofs.FlushDone.{upgraded-already}
-use Rattle.engine.proofs.RefusedCalls.{not_both, failed_no_device, bad_crew_no_device}
+use Rattle.engine.proofs.OneStepLemmas.{admitted_step, already_no_device, bad_crew_step, failed_step, right_step, upgraded_right}
+use Rattle.engine.proofs.RefusedCalls.{not_both}
+use Rattle.engine.proofs.TextSteps.{IsWritingFault}
 use Rattle.engine.proofs.store.Store.upgrade.Goals as goal
 
 -- ---- the store has failed
@@ -19,23 +22,10 @@ returns-then-self g c =
     let bad : old.has_failed ≡ true = subst (λ x. x.has_failed ≡ true) c.self.view_is c.if-self.true in
     let sound : IsSound g.D.Disk.view old = rw (← c.self.view_is) c.self.invariant.sound in
     record {
-      store = tt;
+      step = failed_step g.D.Disk.view g.D.Disk.failed (is_crew c.args.crew) old Upgrade (λ n. Upgraded n) sound bad;
       version = tt;
       already = λ fine. absurd (not_both old.has_failed bad fine);
       nothing = λ _. refl;
-      rest = (refl, kept_self (g.D.Disk.view old.disk));
-      failed = λ _. refl;
-      bad_crew = λ fine. absurd (not_both old.has_failed bad fine);
-      refused = λ fine. absurd (not_both old.has_failed bad fine);
-      unchanged = λ _. refl;
-      device = λ device. absurd (failed_no_device device);
-      counted = tt;
-      bytes = λ _. tt;
-      is_synced = λ _. tt;
-      crash = λ fine. absurd (not_both old.has_failed bad fine);
-      frames = tt;
-      frames_under_way = λ device. absurd (failed_no_device device);
-      sound = (sound, sound);
     }
 
 -- ---- the crew is out of range
@@ -48,30 +38,22 @@ returns-in_err-admit_crew g c =
     let why = c.in_err-admit_crew.ensures.err in
     let p = err_from_is_err_and c.from_residual.result c.from_residual.ensures.1 in
     rw (p.1, p.2, why.0) (record {
-      store = tt;
+      step = bad_crew_step g.D.Disk.view g.D.Disk.failed (is_crew c.args.crew) old Upgrade (λ n. Upgraded n) sound (g.met.D.Disk.lawful old.disk) fine why.1;
       version = tt;
       already = λ _ able. absurd (not_both (is_crew c.args.crew) able why.1);
       nothing = λ _. refl;
-      rest = (refl, kept_self (g.D.Disk.view old.disk));
-      failed = λ bad. absurd (not_both old.has_failed bad fine);
-      bad_crew = λ _ _. refl;
-      refused = λ _ able. absurd (not_both (is_crew c.args.crew) able why.1);
-      unchanged = λ _. refl;
-      device = λ device. absurd (bad_crew_no_device device);
-      counted = tt;
-      bytes = λ _. tt;
-      is_synced = λ _. tt;
-      crash = λ fine is_synced. leaves_itself (g.D.Disk.view old.disk) _ (g.met.D.Disk.lawful old.disk is_synced.honest) is_synced (inl refl);
-      frames = tt;
-      frames_under_way = λ device. absurd (bad_crew_no_device device);
-      sound = (sound, sound);
     })
 
 -- ---- the log has version 2
 
-pub returns-then-eq-clause-crash : goal.returns-then-eq-clause-crash
-returns-then-eq-clause-crash g c fine is_synced =
-    leaves_itself (g.D.Disk.view c.args.self.now.disk) _ (g.met.D.Disk.lawful c.args.self.now.disk is_synced.honest) is_synced (inl refl)
+pub returns-then-eq-clause-step : goal.returns-then-eq-clause-step
+returns-then-eq-clause-step g c =
+    let old = c.args.self.now in
+    let fine : old.has_failed ≡ false = subst (λ x. x.has_failed ≡ false) c.self.view_is c.if-self.false in
+    let sound : IsSound g.D.Disk.view old = rw (← c.self.view_is) c.self.invariant.sound in
+    let two : old.store.version ≡ Two = search rules in
+    right_step g.D.Disk.view g.D.Disk.failed (is_crew c.args.crew) old Upgrade (λ n. Upgraded n) sound (g.met.D.Disk.lawful old.disk)
+    AlreadyUpgraded fine c.in_ok-admit_crew.ensures.ok already_no_device (upgraded_right old.settings old.store (g.D.Disk.view old.disk).seen two) refl
 
 -- ---- written
 
@@ -86,26 +68,14 @@ returns g c =
     cc) in
     let wrote = c.write.ensures in
     let file = (g.D.Disk.view old.disk).seen in
+    let refused = (text_as_before g.D.Disk.view g.D.Disk.failed true texts.Upgrade old c.write.new.self tt c.write.result wrote.step).refused fine refl in
     record {
-      store = wrote.store;
+      step = admitted_step g.D.Disk.view g.D.Disk.failed (is_crew c.args.crew) old _ Upgrade (λ n. Upgraded n) _ c.in_ok-admit_crew.ensures.ok wrote.step;
       version = wrote.version;
       already = λ _ _. (
         (λ two. absurd (not_two two)),
         (λ is. upgraded-already old.settings old.store file _ _
-            (subst (λ r. IfErr r (IsWritingFault texts.Upgrade old.settings old.store file (g.D.Disk.failed old.disk) (g.D.Disk.failed c.write.new.self.disk))) is wrote.refused)),
+            (subst (λ r. IfErr r (IsWritingFault texts.Upgrade old.settings old.store file (g.D.Disk.failed old.disk) (g.D.Disk.failed c.write.new.self.disk))) is refused)),
       );
       nothing = λ two. absurd (not_two two);
-      rest = wrote.rest;
-      failed = λ bad. absurd (not_both old.has_failed bad fine);
-      bad_crew = λ _ bad. absurd (not_both (is_crew c.args.crew) c.in_ok-admit_crew.ensures.ok bad);
-      refused = λ _ _. wrote.refused;
-      unchanged = wrote.unchanged;
-      device = wrote.device;
-      counted = wrote.counted;
-      bytes = wrote.bytes;
-      is_synced = wrote.is_synced;
-      crash = λ _ is_synced. wrote.crash is_synced;
-      frames = wrote.frames;
-      frames_under_way = wrote.frames_under_way;
-      sound = wrote.sound;
     }

@@ -2,7 +2,7 @@ use Rattle.std.proofs.Common.{◌≡◌, ◌+◌, ◌-◌, ◌^◌, ◌≤◌, m
 use Rattle.engine.proofs.RoomLemmas.{lengths}
 use Rattle.engine.proofs.store.room.with_image.Given as goal
 
--- what was added up, and the frames from this place on, are all of it
+-- the sum so far, and the bytes of the frames from this place on, are the bytes of all
 abbrev pub invariant-loop-at : goal.invariant-loop-at
 invariant-loop-at l = record {
   fits : l.total ≤ 2 ^ 64 - 1;

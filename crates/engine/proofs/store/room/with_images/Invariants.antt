@@ -3,7 +3,7 @@ use Rattle.flush_log.specs.Images.{frames_in}
 use Rattle.engine.proofs.RoomLemmas.{lengths}
 use Rattle.engine.proofs.store.room.with_images.Given as goal
 
--- what was added up, and the images from this one on, are all of it
+-- the sum so far, and the bytes of the images from this one on, are the bytes of all
 abbrev pub invariant-loop-image : goal.invariant-loop-image
 invariant-loop-image l = record {
   fits : l.total ≤ 2 ^ 64 - 1;

@@ -3,7 +3,7 @@ use Rattle.mapping.specs.TreeInMemory.{tree_of}
 use Rattle.engine.specs.Tidied.{counted_pages}
 use Rattle.engine.proofs.store.tidy.count_pages.Given as goal
 
--- what was counted and what is left are all pages
+-- the count so far and the remaining pages are all pages
 abbrev pub invariant-pages : goal.invariant-pages
 invariant-pages l = record {
   fits : l.count ≤ 2 ^ 64 - 1;
