@@ -1,13 +1,14 @@
 #!/usr/bin/env python3
-"""Proves the layers of the server that have contracts, as a library of its own in a copy. Today this is the text layer, which takes a minute or two.
-Then the prover has to refuse the deliberately broken functions in `bodies`, whose form `checks/bodies.py` describes.
+"""Proves the layers of the server that have proved contracts, as a library of its own in a copy. Then the prover has to refuse the deliberately broken
+functions in `bodies`, whose form `checks/bodies.py` describes. The plan uses the crate `keys`, whose library the gate has built (or `rt ci`).
 
-    server/prove.py [--text]            # --text: only the text layer
-    server/prove.py --text --only text::requests::read_line     # only these functions, without the broken ones
+    server/prove.py [--text | --plan]       # --text: the text layer alone; --plan: also the buffers and the plan; without both: also peers and rounds
+    server/prove.py --plan --only plan::requests::read     # only these functions, without the broken ones
 """
 
 import argparse
 import dataclasses
+import shutil
 import subprocess
 import sys
 import tempfile
@@ -27,12 +28,18 @@ ROOT = "//! The layers of the server that have contracts.\n#![tactic(auto)]\n\n"
 
 @dataclass(frozen=True)
 class Part:
-    """Layers that are proved together: their modules in `src`, `specs` and `proofs`, and the libraries that they use."""
+    """Layers that are proved together: their modules in `src`, `specs` and `proofs`, the kit's libraries that they use, and the engine's."""
 
     layers: tuple[str, ...]
     specs: tuple[str, ...]
     proofs: tuple[str, ...]
-    uses: str
+    uses: tuple[str, ...]
+    crates: tuple[str, ...] = ()
+
+    def and_(self, more: "Part") -> "Part":
+        """Returns these layers, and more above them."""
+        both = ("layers", "specs", "proofs", "uses", "crates")
+        return Part(**{name: (*getattr(self, name), *getattr(more, name)) for name in both})
 
     def copy(self, workspace: Path) -> Path:
         crate = workspace / "crates" / CRATE
@@ -46,12 +53,33 @@ class Part:
         (crate / "src/lib.rt").write_text(ROOT + "".join(f"pub mod {name};\n" for name in self.layers))
         (crate / "specs/Lib.antt").write_text("".join(f"pub mod {name}\n" for name in self.specs))
         (crate / "proofs/Lib.antt").write_text("".join(f"mod {name}\n" for name in self.proofs))
-        (workspace / "crates.txt").write_text(f"{CRATE}: {self.uses}\n")
+        self.copy_crates(workspace)
         return crate
 
+    def copy_crates(self, workspace: Path) -> None:
+        """Copies the engine's crates that these layers use, each with the library that the gate has built."""
+        lines = dict(line.split(": ", 1) for line in (TOP / "crates.txt").read_text().splitlines() if not line.startswith("#"))
+        for name in self.crates:
+            if not (TOP / "crates" / name / "out/rlib").is_dir():
+                sys.exit(f"the library of {name} is missing: run `rt ci {name}` or `./check --gate` first")
+            shutil.copytree(TOP / "crates" / name, workspace / "crates" / name)
+        written = [f"{name}: {lines[name]}" for name in self.crates]
+        (workspace / "crates.txt").write_text("\n".join([*written, f"{CRATE}: {' '.join((*self.crates, *self.uses))}"]) + "\n")
 
-TEXT = Part(("text",), ("Reading", "Text"), ("Arrays", "Digits", "Fronts", "LineWords", "Lines", "Numbers", "Requests", "Words"), "itoa")
-ALL = TEXT
+
+TEXT = Part(("text",), ("Reading", "Text"), ("Arrays", "Digits", "Fronts", "LineWords", "Lines", "Numbers", "Requests", "Words"), ("itoa",))
+BUFFERS = Part(("buffers",), ("Buffers", "History", "Kept"), ("Histories", "KeptBytes"), ("http_server",))
+PLAN = Part(
+    ("plan",),
+    ("Bounds", "Cursors", "Meaning", "OnKey", "Peer", "Plan", "Uses", "Verbs"),
+    ("BoundLemmas", "CursorLemmas", "Meant", "OptionWords", "Planning", "Requested", "WordPairs"),
+    ("thiserror",),
+    ("keys",),
+)
+PEER = Part(("peer",), ("Next",), ("Nexts", "Taking"), ())
+ROUND = Part(("round",), ("Answering", "Answers", "Round"), ("Rounds", "Turns", "Used", "Waiting"), ("slab",))
+PLANS = TEXT.and_(BUFFERS).and_(PLAN)
+ALL = PLANS.and_(PEER).and_(ROUND)
 
 
 def refuses_broken(workspace: Path, part: Part) -> bool:
@@ -62,18 +90,24 @@ def refuses_broken(workspace: Path, part: Part) -> bool:
     return all(verdict.wrong is None for verdict in verdicts)
 
 
+def is_proved(workspace: Path, crate: Path, only: list[str]) -> bool:
+    """Returns whether the prover accepts the layers, or these functions of them. Prints what it prints, and its processor seconds."""
+    status, printed, seconds = bodies.run_check(kit.Workspace(workspace), CRATE, crate, only)
+    print(f"{printed.rstrip()}\n{CRATE}: {seconds:.0f} processor seconds", flush=True)
+    return status == 0
+
+
 def main() -> None:
     parser = argparse.ArgumentParser(description=__doc__, formatter_class=argparse.RawDescriptionHelpFormatter)
     parser.add_argument("--text", action="store_true", help="prove the text layer alone")
+    parser.add_argument("--plan", action="store_true", help="prove the text layer, the buffers and the plan")
     parser.add_argument("--only", nargs="+", default=[], metavar="PATH", help="prove these functions alone")
     options = parser.parse_args()
-    part = TEXT if options.text else ALL
+    part = TEXT if options.text else PLANS if options.plan else ALL
     with tempfile.TemporaryDirectory() as folder:
         crate = part.copy(Path(folder))
-        words = ["check", *(word for path in options.only for word in ("--only", path))] if options.only else ["verdict"]
-        status = subprocess.run(["rt", *words], cwd=crate).returncode
-        is_refused = bool(options.only) or status != 0 or refuses_broken(Path(folder), part)
-    sys.exit(status or not is_refused)
+        is_right = is_proved(Path(folder), crate, options.only) and (bool(options.only) or refuses_broken(Path(folder), part))
+    sys.exit(not is_right)
 
 
 if __name__ == "__main__":

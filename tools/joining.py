@@ -1,5 +1,5 @@
-"""Joins several programs to one, which runs the one by whose name it is called. Each build reads the whole engine, so one build takes less time than
-eight."""
+"""Joins several programs into one, which runs the program by whose name it is called. Each build reads the whole engine, so one build takes less time
+than eight."""
 
 import re
 from pathlib import Path
@@ -47,7 +47,13 @@ def module_of(name: str, source: str, crate: str) -> tuple[str, str]:
 
 def inside(source: str, name: str, crate: str) -> str:
     """Returns the source of a program as part of a module of its name."""
-    return MODULES.sub(f"crate::{name}::", source).replace(f"Rattle.{name}.", f"Rattle.{crate}.")
+    return MODULES.sub(f"crate::{name}::", of_joined(source, name, crate))
+
+
+def of_joined(source: str, name: str, crate: str) -> str:
+    """Returns a text whose modules of `specs` and `proofs` are those of the joined program."""
+    declared = source.replace(f"Rattle.{name}.specs.declared.", f"Rattle.{crate}.specs.declared.{name}.")
+    return declared.replace(f"Rattle.{name}.", f"Rattle.{crate}.")
 
 
 def join_programs(folders: dict[str, Path], crate: Path) -> None:
@@ -66,7 +72,7 @@ def join_programs(folders: dict[str, Path], crate: Path) -> None:
             made = crate / source.relative_to(folder).with_suffix("")
             if made in lists and made.name != LIST:
                 raise JoinError(f"{name}: there is another {made.relative_to(crate)}")
-            lists[made] = lists.get(made, "") + source.read_text().replace(f"Rattle.{name}.", f"Rattle.{crate.name}.")
+            lists[made] = lists.get(made, "") + of_joined(source.read_text(), name, crate.name)
     for made, text in lists.items():
         made.parent.mkdir(exist_ok=True)
         made.write_text(text)

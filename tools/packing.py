@@ -27,7 +27,7 @@ libgcc_s.so.1, which Debian installs with it.
 program | SHA-256 | built
 ---|---|---
 `bin/bwsh` | `{store_sum}` | {store_built}
-`bin/bwserve` | `{server_sum}` | without proofs, and so with run-time checks. The contracts of its text layer are proved; [its page](server/README.md) says what is only tested
+`bin/bwserve` | `{server_sum}` | without proofs, and so with run-time checks. The contracts of its layers except main are proved; [its page](server/README.md) says what is only tested
 
 [PROVED](docs/PROVED.md) says what is proved of `bwsh`, and what that rests on. To prove it again, check out the commit on a machine with the kit, and
 run `./check --gate`.
@@ -60,7 +60,7 @@ def output_of(*command: str | Path) -> str:
 
 
 def escape(line: str) -> str:
-    """Returns a line of text as troff shows it unchanged."""
+    """Escapes a line of text, so that troff shows it unchanged."""
     text = line.replace("\\", "\\e").replace("-", "\\-")
     return f"\\&{text}" if text[:1] in (".", "'") else text
 
