@@ -24,7 +24,7 @@ SEGMENT = 1_048_576
 VALUE = 1_000  # bytes
 BATCH = 1_000  # puts, each followed by a flush
 SETTINGS = {"fan": 16, "chain": 4, "max_key": 8, "max_value": VALUE, "seg_size": SEGMENT}
-FIRST, LAST = 20, 40  # flushes whose median is reported
+FIRST, LAST = 20, 40  # flushes measured in the new log, and at least in the full log
 MOST = 50_000  # commands of a batch
 
 
@@ -32,7 +32,7 @@ MOST = 50_000  # commands of a batch
 class Measured:
     segments: int
     first: float  # median seconds of a batch and its flush in the new log
-    full: float  # the same once segments are freed
+    full: float  # mean seconds of a batch and its flush after the first segment was freed
     longest: float
     read: int  # bytes for each flush in the full log
 
@@ -72,7 +72,7 @@ FULL = 10  # the fault
 
 
 def loaded(store: Store, first: int, count: int) -> bool:
-    """Puts so many pairs from `first` on, and flushes. Returns whether the log had room."""
+    """Puts `count` pairs from the number `first` on, and flushes. Returns whether the log had room."""
     chance = random.Random(first)
     store.load((b"%07d" % key, chance.randbytes(VALUE)) for key in range(first, first + count))
     try:

@@ -16,7 +16,7 @@ from typing import Any
 
 sys.path.insert(0, str(Path(__file__).resolve().parent.parent))
 
-from bench import persistent, plot
+from bench import calls, persistent, plot
 from bench.crew import GRAIN, PHASES, time_long_batches
 from bench.peer_programs import PEER, build_rust_peer
 from bench.tables import print_table
@@ -31,15 +31,15 @@ SETTINGS = {BIG: (64, 16), SMALL: (16, 4)}  # fan and chain
 UNIT = "ns a command"  # of most rows
 RANGES = 100_000
 WORKERS = 4
-PARTS = ["speeds", "lengths", "many pairs", "ranges", "workers", "persistent"]
-OVER_LIBRARY = {"ranges": "range", "workers": "crew"}  # the parts that need a program that uses the library, and the program's name
+PARTS = ["speeds", "calls", "lengths", "many pairs", "ranges", "workers", "persistent"]
+OVER_LIBRARY = {"calls": "crew", "ranges": "range", "workers": "crew"}  # the parts that need a program that uses the library, and the program's name
 
 Goals = dict[str, float]  # by settings
 Figures = dict[str, Any]  # in the JSON file
 Row = dict[str, Any]
 
 
-def goals(big: float, small: float | None = None) -> Goals:
+def goals(big: float | None, small: float | None = None) -> Goals:
     return {name: number for name, number in ((BIG, big), (SMALL, small)) if number is not None}
 
 
@@ -169,6 +169,23 @@ class GoalBench:
         results, wanted = self.run(speed_sessions(work), list(self.commands))
         return self.speeds(results, wanted) + self.memory(results, work), results.growth(list(self.commands))
 
+    def calls_alone(self) -> list[Row]:
+        peer = build_rust_peer(self.folder, "crew/peer.rs") if self.peer else None
+        programs: dict[str, calls.TimedCommand] = {PEER: ([*peer], SETTINGS[BIG])} if peer else {}
+        programs |= {name: ([self.options.library / "crew_bench"], settings) for name, settings in SETTINGS.items()}
+        rows: list[Row] = []
+        for run in calls.RUNS:
+            measured = calls.measure(run, programs, self.options.pairs, self.options.repeats, self.folder)
+            rows += [self.row_of_calls(run, phase, runs) for phase, runs in measured.items()]
+        return rows
+
+    def row_of_calls(self, run: calls.Run, phase: str, runs: dict[str, list[float]]) -> Row:
+        count, goal = run.count(phase, self.options.pairs), goals(*run.goals[phase])
+        figures = {name: min(times) / count * 1e9 for name, times in runs.items()}
+        reached = {name: figures[PEER] / figures[name] for name in goal if PEER in figures}
+        name = ", ".join(filter(None, ["calls alone", calls.NAMES[phase], run.title]))
+        return row(name, count, UNIT, figures, reached, goal, runs)
+
     def lengths(self) -> list[Row]:
         rows: list[Row] = []
         for length in 8, 16:
@@ -269,6 +286,8 @@ def measure_part(part: str, bench: GoalBench, figures: Figures) -> None:
     options = bench.options
     if part == "speeds":
         rows, figures["growth"] = bench.usual()
+    elif part == "calls":
+        rows = bench.calls_alone()
     elif part == "lengths":
         rows = bench.lengths()
     elif part == "many pairs":

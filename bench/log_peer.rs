@@ -1,9 +1,9 @@
-//! The peer with a file: what `bwsh --disk FILE` does, over std's `BTreeMap` and an append-only file. It reads the same text,
-//! and prints the same lines. As `bwsh` it reads all text first; then it makes its file anew (`--create`) or replays it.
-//! Without `--disk` there is no file; settings are not looked at.
+//! The peer with a file: does what `bwsh --disk FILE` does, with a `BTreeMap` and an append-only file. It reads the same batch files and prints the
+//! same lines. Like `bwsh`, it reads all its input first. Then it creates its file (`--create`) or replays it. Without `--disk` there is no file.
+//! Settings are ignored.
 //!
-//! The file has a record for each command that changed something, as it is run, and one for each flush, which alone makes
-//! those before it count. A flush is one sync. Nothing detects a record that a power cut left wrong; a kill leaves none.
+//! The file has a record for each command that changed something, and one for each flush. Records after the last flush are ignored. A flush makes one
+//! sync. A record that a power failure has damaged is not detected; a kill damages none.
 
 #[allow(dead_code)]
 #[path = "peer.rs"]
@@ -18,7 +18,7 @@ const PUT: u8 = 1;
 const DEL: u8 = 2;
 const FLUSH: u8 = 3;
 const WIPE: u8 = 4;
-const LONG: usize = 1 << 20; // what is kept before it is written
+const LONG: usize = 1 << 20; // bytes of records that are collected before they are written
 
 enum Order {
     Batch(Vec<Command>),
@@ -26,7 +26,7 @@ enum Order {
     Verify,
 }
 
-// The log: its file, if there is one, and what is to be written there.
+// The log: its file, if there is one, and the records that are not written yet.
 struct Log {
     file: Option<File>,
     pending: Vec<u8>,
@@ -35,8 +35,8 @@ struct Log {
 }
 
 impl Log {
-    // A record: its length, in four bytes, its kind, and for a put the length of the key, in two bytes, the key, the value; for a wipe
-    // the same of its bounds, and nothing for the upper one where there is none: below the empty key there is nothing to be wiped.
+    // Appends a record: its length in four bytes, its kind, and for a put the length of the key in two bytes, the key and the value. A wipe has its
+    // bounds in the same form. An empty upper bound means that there is none, since no key is below the empty key.
     fn push(&mut self, kind: u8, parts: &[&[u8]]) {
         let length = 1 + parts.iter().map(|part| part.len()).sum::<usize>();
         self.pending.extend_from_slice(&(length as u32).to_be_bytes());
@@ -46,7 +46,7 @@ impl Log {
         }
     }
 
-    // Takes down a command, if it changed something.
+    // Appends the record of a command, if it changed something.
     fn note(&mut self, command: &Command, reply: &Reply) {
         match (command, reply) {
             (_, Reply::Word("missing" | "exists")) => return,
@@ -62,7 +62,7 @@ impl Log {
         self.is_changed = true;
     }
 
-    // Writes what is there, if it is so long.
+    // Writes the pending records, if they have at least `least` bytes.
     fn write(&mut self, least: usize) -> io::Result<()> {
         if self.pending.len() >= least {
             if let Some(file) = &mut self.file {
@@ -73,7 +73,7 @@ impl Log {
         Ok(())
     }
 
-    // Where something was changed, makes it count, and gives it the next number.
+    // If something was changed, makes it durable and counts a flush. Returns the number of the last flush.
     fn flush(&mut self) -> io::Result<u64> {
         if mem::take(&mut self.is_changed) {
             self.push(FLUSH, &[]);
@@ -87,7 +87,7 @@ impl Log {
     }
 }
 
-// The first record, and what is after it; none where the text ends before it does.
+// Returns the first record and the bytes after it, or `None` if the record is incomplete.
 fn record(text: &[u8]) -> Option<(&[u8], &[u8])> {
     let (length, rest) = text.split_first_chunk::<4>()?;
     rest.split_at_checked(u32::from_be_bytes(*length) as usize)
@@ -113,7 +113,7 @@ fn replay(map: &mut Map, record: &[u8]) -> Option<()> {
     Some(())
 }
 
-// How much of the text is flushed, and the number of the last flush.
+// Returns how many bytes of the file are flushed, and the number of the last flush.
 fn flushed(text: &[u8]) -> (usize, u64) {
     let (mut length, mut sequence) = (0, 1);
     let mut rest = text;
@@ -126,7 +126,7 @@ fn flushed(text: &[u8]) -> (usize, u64) {
     (length, sequence)
 }
 
-// The map that the file holds, and its log, which goes on after the last flush.
+// Returns the map that the file holds, and its log, which continues after the last flush.
 fn recover(path: &str) -> io::Result<(Map, Log)> {
     let text = fs::read(path)?;
     let (length, sequence) = flushed(&text);
@@ -146,7 +146,7 @@ fn log(file: Option<File>, sequence: u64) -> Log {
     Log { file, pending: Vec::new(), sequence, is_changed: false }
 }
 
-// An empty map on a new file.
+// Returns an empty map, and the log of a new file.
 fn create(path: &str) -> io::Result<(Map, Log)> {
     let file = File::create(path)?;
     file.sync_data()?;
@@ -178,7 +178,7 @@ fn parse(text: &[u8]) -> Option<Vec<Order>> {
     Some(orders)
 }
 
-// Does what the order says, and appends its lines. A verify looks at nothing, and prints one page on one level.
+// Executes the order, and appends its lines. `verify` checks nothing, and prints one page on one level.
 fn run(map: &mut Map, log: &mut Log, order: &Order, lines: &mut Vec<u8>) -> io::Result<()> {
     match order {
         Order::Batch(commands) => {

@@ -1,6 +1,6 @@
-//! The peer of the bench: what `bwsh` does, over std's `BTreeMap`. It reads the same text, runs each batch sorted by key,
-//! and prints the same lines. As in the store, a batch is lent, and its replies are values of their own. Its first word, `retain`
-//! or `append`, says by what a range is removed; without one that is `extract_if`.
+//! The peer of the benchmarks: does what `bwsh` does, with a `BTreeMap`. It reads the same batch files, executes each batch in key order, and prints
+//! the same lines. As in the store, a batch is borrowed, and its replies own their bytes. The first argument, `retain` or `append`, chooses how a
+//! range is removed; the default is `extract_if`.
 
 use std::collections::BTreeMap;
 use std::ops::Bound;
@@ -8,7 +8,7 @@ use std::io::{self, Read, Write};
 
 pub type Map = BTreeMap<Vec<u8>, Vec<u8>>;
 
-/// Removes the keys from the first on, and below the second, and says how many there were.
+/// Removes the keys from the first bound to below the second, and returns how many there were.
 pub type Remove = fn(&mut Map, &Vec<u8>, Option<&Vec<u8>>) -> usize;
 
 pub enum Command {
@@ -71,7 +71,8 @@ impl Command {
     }
 }
 
-/// A map takes no range whose end is below its beginning.
+/// Removes a range, and returns how many keys there were. `BTreeMap` panics if the end of a range is below its start, so such a range is not passed
+/// on.
 pub fn wipe(map: &mut Map, lo: &Vec<u8>, hi: Option<&Vec<u8>>, remove: Remove) -> usize {
     if hi.is_some_and(|hi| hi <= lo) { 0 } else { remove(map, lo, hi) }
 }
@@ -103,7 +104,7 @@ fn chosen() -> Remove {
     }
 }
 
-// The first `limit` pairs from the one bound on, and below the other.
+// Returns the first `limit` pairs from `lo` to below `hi`.
 fn rows(map: &Map, lo: &[u8], hi: Option<&[u8]>, limit: usize) -> Vec<(Vec<u8>, Vec<u8>)> {
     map.range::<[u8], _>((Bound::Included(lo), Bound::Unbounded))
         .take_while(|(key, _)| hi.is_none_or(|hi| key.as_slice() < hi))
@@ -116,7 +117,7 @@ fn hex(digit: u8) -> Option<u8> {
     (digit as char).to_digit(16).map(|value| value as u8)
 }
 
-// The bytes that a word stands for: `%` alone for none, and `%41` for the byte 0x41.
+// The bytes that a word encodes: `%` alone for none, and `%41` for the byte 0x41.
 fn token(word: &[u8]) -> Option<Vec<u8>> {
     if word == b"%" {
         return Some(Vec::new());
@@ -168,9 +169,9 @@ fn parse(text: &[u8]) -> Option<Vec<Vec<Command>>> {
     Some(batches)
 }
 
-// The replies to the commands, each at its command's place. They are run in the order of their keys, those of one key in the order of
-// their places; but where a batch has changes, and scans or wipes, all in the order of their places. `note` is called with each when
-// it has been run.
+// Executes a batch, and returns the replies in the order of the commands. Commands are executed in key order, and commands on one key in their own
+// order. If a batch has changes, and also scans or wipes, all commands are executed in their own order. `note` is called with each command after it
+// was executed.
 pub fn run_batch(map: &mut Map, commands: &[Command], mut note: impl FnMut(&Command, &Reply)) -> Vec<Reply> {
     let mut keyed: Vec<_> = commands.iter().map(Command::key).zip(0..).collect();
     if !commands.iter().any(Command::is_ranged) || !commands.iter().any(Command::is_change) {

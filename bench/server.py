@@ -122,13 +122,14 @@ KINDS += [Kind("bwserve --flush 1", True, "1"), Kind("Redis, everysec", False, "
 
 
 def measure_kind(kind: Kind, loads: list[Load], options: argparse.Namespace) -> list[str]:
-    """Begins with an empty store, and keeps what each load leaves for the next one."""
+    """Measures the loads one after the other on one store, which is empty at the start."""
     with tempfile.TemporaryDirectory(dir=options.folder) as folder, kind.run(options, Path(folder)) as port:
         return ["; ".join(map(str, measure(port, load, options.scale))) for load in loads]
 
 
 def measure_full(kind: Kind, options: argparse.Namespace) -> list[list[str]]:
-    """Measures short loads in turn, until the minutes are over: the log is full after the first ones, and then cleaned."""
+    """Measures short loads one after the other, until the minutes are over. The first ones fill the log, and then it is cleaned. Returns the first
+    row and the second half, or all rows if there are few."""
     load, rows = Load("SET", 50, 16, FULL_KEYS), []
     with tempfile.TemporaryDirectory(dir=options.folder) as folder, kind.run(options, Path(folder), segments=64) as port:
         end = time.monotonic() + 60 * options.full

@@ -24,7 +24,7 @@ TURNS = 1_000  # wipes in a batch of alternating wipes and scans, and in a batch
 ROWS = 10  # rows of such a scan, and keys that a narrow wipe removes
 BATCHES = 10  # of a queue
 PIPE = 4_096  # bytes
-HOLD = Phase("", 2_048, 2_048, lambda: ["get -"] * 2_048)  # print more than the pipe and its reader's buffer hold
+HOLD = Phase("", 2_048, 2_048, lambda: ["get -"] * 2_048)  # prints more than the pipe and its reader's buffer hold
 BY = {
     "wipe of a tenth": "deletes of a tenth, in key order",
     "wipe of all": "deletes of all, in key order",

@@ -41,7 +41,7 @@ FNV_OFFSET, FNV_PRIME, MASK = 0xCBF29CE484222325, 0x100000001B3, 0xFFFFFFFFFFFFF
 
 
 def scrambled(number: int) -> int:
-    """The 64-bit FNV-1a hash of a number, by which popular records are spread over all keys."""
+    """Returns the 64-bit FNV-1a hash of a number, which spreads popular records over all keys."""
     total = FNV_OFFSET
     for byte in number.to_bytes(8, "little"):
         total = (total ^ byte) * FNV_PRIME & MASK

@@ -1,46 +1,9 @@
-/* Preloaded beside crew_bench under valgrind: callgrind counts from each line `made PHASE` to the next `batch PHASE`, so the calls of
-   batches alone, and writes what it has counted where a phase ends. */
-#include <string.h>
-#include <sys/syscall.h>
-#include <unistd.h>
+/* Under valgrind, callgrind counts only the calls of batches, and writes its counts at the end of each phase. */
+#include "phases.h"
 #include <valgrind/callgrind.h>
 
-static char phase[16];
+static void start(void) { CALLGRIND_TOGGLE_COLLECT; }
 
-static void end_phase(void) {
-    if (phase[0] != 0) {
-        CALLGRIND_DUMP_STATS_AT(phase);
-    }
-}
+static void stop(void) { CALLGRIND_TOGGLE_COLLECT; }
 
-static void begin(const char *line, size_t length) {
-    char name[sizeof phase] = {0};
-    for (size_t at = 5; at < length && line[at] != '\n' && at - 5 < sizeof name - 1; at++) {
-        name[at - 5] = line[at];
-    }
-    if (strcmp(name, phase) != 0) {
-        end_phase();
-        memcpy(phase, name, sizeof phase);
-    }
-    CALLGRIND_TOGGLE_COLLECT;
-}
-
-ssize_t write(int descriptor, const void *bytes, size_t length) {
-    if (length > 6 && memcmp(bytes, "batch ", 6) == 0) {
-        CALLGRIND_TOGGLE_COLLECT;
-        return (ssize_t)length;
-    }
-    if (length > 5 && memcmp(bytes, "made ", 5) == 0) {
-        begin(bytes, length);
-        return (ssize_t)length;
-    }
-    return syscall(SYS_write, descriptor, bytes, length);
-}
-
-__attribute__((destructor)) static void end(void) { end_phase(); }
-
-void _exit(int status) {
-    end_phase();
-    syscall(SYS_exit_group, status);
-    __builtin_unreachable();
-}
+static void report(const char *phase) { CALLGRIND_DUMP_STATS_AT(phase); }

@@ -1,5 +1,5 @@
-/* LMDB: each batch is one transaction, whose commit syncs the file (no flag is set). With a last word `sorted` each batch is put in the
- * order of its keys, as LMDB likes it best; the sort is timed with it. */
+/* LMDB: each batch is one transaction, whose commit syncs the file (no flag is set). With the last argument `sorted`, each batch is put in key order,
+ * which is fastest in LMDB; the time includes the sort. */
 #include "pairs.h"
 
 #include <lmdb.h>

@@ -1,5 +1,5 @@
-/* What `leveldb.cc` and `rocksdb.cc` share, whose libraries have the same calls: each names its own `library`. All settings are the
- * library's, and each batch is one `WriteBatch`, written with `sync`. */
+/* What `leveldb.cc` and `rocksdb.cc` share. Their libraries have the same calls, in the namespace that each of them names `library`. All settings are
+ * the library's defaults, and each batch is one `WriteBatch`, written with `sync`. */
 #ifndef LOG_STRUCTURED_H
 #define LOG_STRUCTURED_H
 

@@ -1,9 +1,9 @@
-/* What the programs of this folder share: the pairs of a file, and the lines that say how far a program is.
+/* What the programs of this folder share: reading the pairs of a file, and the lines that report progress.
  *
  *     PROGRAM load STORE PAIRS BATCH   puts the pairs of the file PAIRS, BATCH of them in each durable commit
  *     PROGRAM get STORE KEY            opens the store and prints `value V`
  *
- * A load prints `ready` once the pairs are read and the store is open, and `done` after its last commit; then it waits to be killed. */
+ * A load prints `ready` when the pairs are read and the store is open, and `done` after its last commit; then it waits to be killed. */
 #ifndef PAIRS_H
 #define PAIRS_H
 
@@ -31,7 +31,7 @@ static void fail(const char *what, const char *why) {
     exit(1);
 }
 
-/* The whole file, with a zero after it. */
+/* Returns the whole file, followed by a zero byte. */
 static struct slice read_file(const char *path) {
     FILE *file = fopen(path, "rb");
     if (file == NULL) fail(path, "can't be opened");
@@ -50,7 +50,7 @@ static size_t lines_of(struct slice text) {
     return lines;
 }
 
-/* The pairs of a file of lines, each a key, a space and a value. */
+/* Returns the pairs of a file. Each line is a key, a space and a value. */
 static struct pairs read_pairs(const char *path) {
     struct slice text = read_file(path);
     size_t lines = lines_of(text);
@@ -72,7 +72,7 @@ static void say(const char *line) {
     fflush(stdout);
 }
 
-/* Says that all is committed, and waits to be killed: a load never closes its store. */
+/* Reports that all is committed, and waits to be killed: a load never closes its store. */
 static void say_done_and_wait(void) {
     say("done");
     for (;;) pause();

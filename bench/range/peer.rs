@@ -1,4 +1,4 @@
-//! The peer of `main.rt`: the same ranges and keys, read out of std's `BTreeMap`; a copy is a map of the pairs in key order.
+//! The peer of `main.rt`: the same reads, from a `BTreeMap`. A copy is a new map, made from the pairs in key order.
 
 use std::collections::BTreeMap;
 use std::ops::Bound;
