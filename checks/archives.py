@@ -14,7 +14,7 @@ from tools.packing import TOP, Packed, pack
 from tools.processes import Limits, run
 from tools.serving import serving
 
-# The C library, and that of its compiler, which Debian installs with it.
+# The C library, and the compiler's support library, which Debian installs with it.
 LIBRARIES = ("libc.so.6", "libm.so.6", "ld-linux-x86-64.so.2", "libgcc_s.so.1")
 ROOM = Limits(stack=256)  # KB, for `chroot`
 SESSIONS: tuple[tuple[list[str], bytes, bytes], ...] = (

@@ -5,11 +5,11 @@
 Each file `bodies/CRATE/NAME.edit` changes the body of one function, and describes the change in its first line. `file:` names the source; each
 `old:` is a text that occurs there once, and `new:` replaces it. `function:` is the function's name as the prover prints it. `refused:` is the goal
 or clause at which the prover must refuse the function, and `accepted:` marks a control, which it must accept. Only the changed functions are
-checked: the gate has proved the others, so here they lose their bodies, and terms that the prover refuses stand for their proofs. So a control must
-be of a function that calls none of these.
+checked. The gate has proved the others, so here their bodies are removed, and their proofs are replaced by terms that the prover refuses. So a
+control must be a function that calls none of them.
 
-With `--unbroken` the functions are checked in the same copies without their edits, and no goal may be refused: else a refusal would not be for what
-the edit breaks. Run this for a new edit; `./check --gate` does not.
+With `--unbroken` the functions are checked in the same copies without their edits, and no goal may be refused. So a refusal with the edit is caused
+by the edit. Run this for a new edit; `./check --gate` does not.
 """
 
 import os
@@ -135,8 +135,8 @@ class Function:
 
 
 def functions_of(lines: list[str], module: str, modules: dict[str, str]) -> Iterator[Function]:
-    """Yields the formatted functions of a module, and the methods that it gives to types of these modules, without those of a trait and those that
-    call one another."""
+    """Yields the functions of a module whose source is formatted, and its methods of the types of `modules`. Leaves out methods of traits, and
+    functions that call one another."""
     holders: dict[str, str | None] = {"": module, "    ": None}
     for at, line in enumerate(lines):
         if BLOCK.match(line):
@@ -163,7 +163,7 @@ def module_of(file: Path) -> str:
 
 
 def leave_out_bodies(folder: Path, kept: set[str]) -> list[str]:
-    """Removes the bodies of functions, but for these and those that call themselves, and returns the names of those that have none now."""
+    """Removes the bodies of all functions except `kept` and those that call themselves. Returns the names of the functions without a body."""
     source, proofs = folder / "src", folder / "proofs"
     recursive = {"::".join(file.relative_to(proofs).parts).replace("+", "") for file in proofs.rglob("+*")}
     texts = {file: file.read_text() for file in sorted(source.rglob("*.rt"))}
@@ -180,8 +180,8 @@ def leave_out_bodies(folder: Path, kept: set[str]) -> list[str]:
 
 
 def leave_out_proofs(folder: Path, crate: str, left_out: list[str], kept: set[str]) -> None:
-    """Replaces the proof of each function that is left out or has proof files, but for the kept ones, by a term that the prover refuses. A hole would
-    do, but the prover prints its goal, which takes seconds."""
+    """Replaces the proof of each function that is left out or has proof files, except the kept ones, by a term that the prover refuses. A hole would
+    do, but the prover prints the goal of a hole, which takes seconds."""
     proofs = folder / "proofs"
     with_files = {file.parent for name in PROOF_FILES for file in proofs.rglob(name)}
     for function in with_files | {proofs.joinpath(*name.split("::")) for name in left_out}:

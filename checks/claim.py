@@ -116,14 +116,14 @@ class Closure:
         while due:
             name = due.pop()
             if name in self.lines or not (self.crates / name.file).is_file():
-                continue  # names of the kit are words of the language
+                continue  # a name of the kit, whose libraries are not listed
             source = self.source(name.file)
             if name.file.endswith(".rt"):
                 self.types.add(name.name)
             elif name.name in source.definitions:
                 self.lines[name] = counted(source.definitions[name.name])
                 due += source.cited(source.definitions[name.name])
-            elif name.name in source.names:  # it is passed on by `pub use`
+            elif name.name in source.names:  # re-exported by `pub use`
                 due.append(source.names[name.name])
 
     def by_file(self) -> dict[str, int]:

@@ -5,12 +5,16 @@ import os
 import subprocess
 import time
 from collections import Counter
+from dataclasses import replace
 from pathlib import Path
 
 from tools.cases import SMALL_STORE, Case, Outcome, Programs, differs
 from tools.failures import DEVICE, NO_MEMORY, REFUSED, FailingCalls, refusing
 from tools.log.reading import read_store
+from tools.log.writing import Settings
+from tools.model import FULL
 from tools.processes import NO_VARIABLES, PATIENCE, Command, Dialog, Limits, new_folder, run
+from tools.soak.copied import file_of_copy, segments_for_copy
 
 LANES = 4  # cases, each with a share of the allocations
 LARGE = ("--fan=8", "--chain=1", "--max-key=32", "--max-value=16", "--seg-size=1024", "--segments=8")
@@ -108,6 +112,81 @@ def copy_of_stream(programs: Programs) -> Outcome:
         wrong = wrong or differs(run([programs.store, "--copy-to", copy]), 4, b"", DEVICE)
         ended = dialog.finish()
         return Outcome(wrong or (None if ended == (0, b"", b"") else f"the session ended with {ended}") or wrong_store(programs, copy))
+
+
+# ---- Copies from full logs, and into logs that are just large enough.
+
+
+def words_of(settings: Settings) -> list[str]:
+    numbers = {"fan": settings.fan, "chain": settings.chain, "max-key": settings.max_key, "max-value": settings.max_value}
+    numbers |= {"seg-size": settings.seg_size, "segments": settings.segments}
+    return [f"--{name}={number}" for name, number in numbers.items()]
+
+
+def copy_exactly(programs: Programs, count: int) -> Outcome:
+    """The copy's file has the bytes that docs/FORMAT.md defines, in the smallest log that has room. A log with one segment fewer is refused."""
+    pairs = {b"%d" % number: b"v" * (number % 17) for number in range(count)}
+    puts = b"".join(b"put %s %s\n" % (key, value or b"%") for key, value in pairs.items())
+    settings = Settings(16, 4, 16, 16, 1_024, 3)
+    settings = replace(settings, segments=segments_for_copy(settings, pairs))
+    with new_folder() as folder:
+        copy, small = Path(folder) / "copy", Path(folder) / "small"
+        wrong = differs(run([programs.store, "--copy-to", copy, *words_of(settings)], puts), 0, count * b"new\n")
+        wrong = wrong or (None if copy.read_bytes() == file_of_copy(settings, pairs) else "the copy has other bytes")
+        if settings.segments > 3:
+            words = words_of(replace(settings, segments=settings.segments - 1))
+            wrong = wrong or differs(run([programs.store, "--copy-to", small, *words], puts), 4, count * b"new\n", FULL) or is_empty(small)
+        return Outcome(wrong)
+
+
+def copy_to_same_log(programs: Programs) -> Outcome:
+    """Copies a store that uses 14 of the 16 segments of its log. Its 9 leaves have 16 pairs and 11 changes each; a segment has room for the pairs of
+    one leaf, or for the changes of two. The copy has 16 leaves with a segment each, so it needs 17."""
+    settings = Settings(16, 1, 8, 100, 2_048, 16)
+    value = b"v" * 75
+    first = [b"%04d" % (100 * leaf + place) for leaf in range(9) for place in range(16)]
+    later = [b"%04d" % (100 * leaf + place) for leaf in range(9) for place in range(16, 27)]
+    text = b"".join(b"put %s %s\n" % (key, value) for key in first) + b"flush\n"
+    text += b"".join(b"put %s %s\n" % (key, value) for key in later) + b"flush\n"
+    pairs = {key: value for key in first + later}
+    with new_folder() as folder:
+        store, copy = Path(folder) / "store", Path(folder) / "copy"
+        out = len(first) * b"new\n" + b"flushed 2\n" + len(later) * b"new\n" + b"flushed 3\n"
+        wrong = differs(run([programs.store, "--create", "--disk", store, *words_of(settings)], text), 0, out)
+        before = store.read_bytes()
+        wrong = wrong or differs(run([programs.store, "--disk", store, "--copy-to", copy, *words_of(settings)]), 4, b"", FULL) or is_empty(copy)
+        larger = replace(settings, segments=17)
+        wrong = wrong or differs(run([programs.store, "--disk", store, "--copy-to", copy, *words_of(larger)]), 0, b"")
+        wrong = wrong or (None if copy.read_bytes() == file_of_copy(larger, pairs) else "the copy has other bytes")
+        return Outcome(wrong or (None if store.read_bytes() == before else "the store has other bytes"))
+
+
+def queue_batch(first: int, count: int) -> bytes:
+    puts = b"".join(b"put q%07d %s\n" % (first + 1_000 + number, b"v" * 20) for number in range(count))
+    return puts + b"".join(b"del q%07d\n" % (first + number) for number in range(count)) + b"flush\n"
+
+
+def copy_full_queue(programs: Programs) -> Outcome:
+    """A queue of 1,000 pairs fills its log without cleans. The next batch does not fit, even with --clean-when-full, because nearly all of the log is
+    live pages without pairs. The store can be read. Its copy with the same settings is small, holds the same pairs, and does not become full."""
+    settings = words_of(Settings(64, 4, 8, 100, 16_384, 100))
+    with new_folder() as folder:
+        path, copy = Path(folder) / "store", Path(folder) / "copy"
+        puts = b"".join(b"put q%07d %s\n" % (number, b"v" * 20) for number in range(1_000))
+        filled = run([programs.store, "--disk", path, "--create", *settings], puts + b"".join(queue_batch(500 * at, 500) for at in range(100)))
+        flushed = filled.out.count(b"flushed ") - 1
+        full = path.read_bytes()
+        words: Command = [programs.store, "--disk", path, "--clean-when-full"]
+        again = run(words, queue_batch(500 * flushed, 500))
+        is_right = (filled.status, filled.err, again.status, again.err) == (4, FULL, 4, FULL) and path.read_bytes() == full
+        if not is_right or b"cleaned " in again.out:
+            return Outcome(f"{filled.describe()}, then {again.describe()}")
+        rows = run([programs.store, "--disk", path], b"scan % * 4294967295\n").out
+        wrong = differs(run([programs.store, "--disk", path, "--copy-to", copy, *settings]), 0, b"")
+        wrong = wrong or differs(run([programs.store, "--disk", copy], b"scan % * 4294967295\nverify\n"), 0, rows + b"ok 17 2 1000\n")
+        ran = run([programs.store, "--disk", copy, "--clean-when-full"], b"".join(queue_batch(500 * (flushed + at), 500) for at in range(100)))
+        is_right = not ran.status and not ran.err and ran.out.count(b"flushed ") == 100 and rows.startswith(b"rows 1000\n")
+        return Outcome(wrong or (None if is_right else ran.describe()), measured=f"full after {flushed} flushes")
 
 
 # ---- What is at the path of the copy.
@@ -248,7 +327,7 @@ GO_ON = [
 
 
 def copy_after_refusals(programs: Programs, text: bytes, out: bytes, pairs: list[tuple[bytes, bytes]]) -> Outcome:
-    """A stream goes on after a fault and after a bad line, and copies what it leaves."""
+    """A stream continues after a fault and after a bad line, and copies the store at its end."""
     with new_folder() as folder:
         copy = Path(folder) / "copy"
         wrong = differs(run([programs.store, "--stream", "--copy-to", copy], text), 0, out)
@@ -468,6 +547,9 @@ def cases(programs: Programs, refusing: Path, failing: Path) -> list[Case]:
         Case("copies after the numbers", copy_with_numbers, arguments),
         Case("copies many pairs", copy_many, arguments),
         Case("copies at the end of a dialog", copy_of_stream, arguments),
+        *(Case(f"the bytes of a copy of {count} pairs", copy_exactly, (programs, count)) for count in (0, 1, 16, 17, 400, 4_096)),
+        Case("copies into a log with more segments", copy_to_same_log, arguments),
+        Case("copies a queue that has filled its log", copy_full_queue, arguments),
         Case("replaces nothing", copy_over, arguments),
         Case("replaces what an unfinished attempt left", copy_over_unfinished, arguments),
         Case("no copy in the file of the store", create_over_copy, arguments),

@@ -43,7 +43,7 @@ def check_answers(programs: Programs) -> Outcome:
     return Outcome(None if ended == (0, b"deleted\nmissing\n", b"") else f"the session ended with {ended}")
 
 
-# Options, lines, and answers. After each fault and each bad line the stream goes on.
+# Options, lines, and answers. After each fault and each bad line the stream continues.
 REFUSALS: list[tuple[tuple[str, ...], bytes, bytes]] = [
     # A bad line is answered at once, and its batch is skipped up to the line that ends it.
     ((), b"put a 1\ngo\nput b 1\nfrob\nput c 1\nput %\ngo\nscan % * 9\ngo\n", b"new\nline 4: unknown command\nrows 1\na 1\n"),
@@ -87,7 +87,7 @@ def refuse_full(programs: Programs) -> Outcome:
 
 
 def refuse_memory(programs: Programs) -> Outcome:
-    """A line that memory is too small for is refused with its batch, and the stream goes on."""
+    """A line that does not fit in memory is refused with its batch, and the stream continues."""
     long = b"put b " + 30_000_000 * b"x" + b"\n"
     ran = run([programs.store, "--stream"], b"put a 1\ngo\nput c 1\n" + long + b"put d 1\nflush\nscan % * 9\ngo\n", Limits(memory=20_000))
     return Outcome(differs(ran, 0, b"new\nfault 6 NoMemory\nflushed 2\nrows 1\na 1\n"))
@@ -204,7 +204,7 @@ def ask_for_help(programs: Programs) -> Outcome:
 
 
 def tidy_at_once(programs: Programs) -> Outcome:
-    """Forty batches put and delete: many emptied pages. The pages that `.tidy` says are freed are those that `verify` counts."""
+    """Deletes in small batches leave many emptied pages. `verify` counts as many pages fewer as `.tidy` reports."""
     puts = b"".join(b"put k%03d v\n" % number for number in range(400)) + b"go\n"
     deletes = b"".join(b"del k%03d\n" % number + b"go\n" * (number % 10 == 9) for number in range(380))
     ran = run([programs.store, "--stream"], puts + deletes + b"verify\n.tidy 1000\nverify\nscan % * 999\n")
@@ -215,7 +215,8 @@ def tidy_at_once(programs: Programs) -> Outcome:
 
 
 def copy_live_store(programs: Programs) -> Outcome:
-    """A copy has the pairs as they are, flushed or not, and the settings of the store. The stream goes on after a refused copy."""
+    """A copy has all pairs, flushed or not, and the settings of the store, except a number of segments that is given. The stream continues after a
+    refused copy."""
     with new_folder() as folder:
         path, first, second = (Path(folder) / name for name in ("file", "fi rst", "second"))
         dialog = Dialog(programs.store, "--disk", path, "--create", "--max-key=9")
@@ -247,7 +248,7 @@ def explain_copy(programs: Programs) -> Outcome:
 
 
 def explain_damage(programs: Programs) -> Outcome:
-    """A log that is damaged while a stream runs refuses the clean that reads it. The store in memory is whole, and can be copied."""
+    """If the log is damaged while a stream runs, a clean fails when it reads the log. The store in memory is whole, and can be copied."""
     with new_folder() as folder:
         path, copy = Path(folder) / "file", Path(folder) / "copy"
         dialog = Dialog(programs.store, "--explain", "--disk", path, "--create", "--fan=4", "--max-value=60", "--seg-size=1024")
@@ -266,7 +267,7 @@ def explain_damage(programs: Programs) -> Outcome:
 
 
 def read_without_lock(programs: Programs) -> Outcome:
-    """A session that writes nothing gives its lock up once it has read the store, before it prints."""
+    """A session that writes nothing releases its lock when it has read the store, before it prints."""
     with new_folder() as folder:
         path = Path(folder) / "file"
         puts = b"".join(b"put k%05d %s\n" % (number, 200 * b"v") for number in range(2_000))
@@ -277,7 +278,7 @@ def read_without_lock(programs: Programs) -> Outcome:
 
 
 def wait_for_lock(programs: Programs) -> Outcome:
-    """--wait waits while another session has locked the file, and not longer than it says."""
+    """--wait waits while another session has locked the file, at most for the given time."""
     with new_folder() as folder:
         path = Path(folder) / "file"
         dialog = Dialog(programs.store, "--disk", path, "--create")
@@ -298,7 +299,7 @@ def wait_for_lock(programs: Programs) -> Outcome:
         return Outcome(wrong or (None if is_right and 0.9 <= seconds < 9 else f"{answers}, {is_waiting}, {ended}, {status}, {out!r}, {seconds:.1f} s"))
 
 
-# Options of a session that locks the file before it reads a line, or a line that does, and the answers.
+# Options, lines and answers of sessions that lock a file: before they read a line, or by a line.
 WAITING: list[tuple[tuple[str, ...], bytes, bytes]] = [
     (("--copy-to",), b"put a 1\n", b"new\n"),
     (("--stream", "--copy-to"), b"put a 1\n", b"new\n"),
@@ -308,7 +309,7 @@ WAITING: list[tuple[tuple[str, ...], bytes, bytes]] = [
 
 
 def wait_for_new_file(programs: Programs, number: int) -> Outcome:
-    """--wait waits for the file of a copy and of a new store, too."""
+    """--wait also waits for the file of a copy, and of a new store."""
     words, text, out = WAITING[number]
     with new_folder() as folder:
         path = Path(folder) / "file"

@@ -112,7 +112,7 @@ def run_beside(programs: Programs) -> Outcome:
 
 
 def run_beside_reader(programs: Programs) -> Outcome:
-    """A session that writes nothing gives its lock up before it prints, and is answered from memory."""
+    """A session that writes nothing releases its lock before it prints, and answers from memory."""
     with new_folder() as folder:
         path = Path(folder) / "file"
         make(programs, path, b"put x 1\nflush\n")

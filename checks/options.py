@@ -103,8 +103,8 @@ EXPLAINED: list[tuple[tuple[str, ...], bytes, bytes | None, bytes, bytes]] = [
         18 * LONG_PUT,
         None,
         b"fault 10 Full\n",
-        b"line 36: The log has no room for this. Lines clean or --clean-when-full make room, unless too much data lives. "
-        b"Then copy the store with .copy or --copy-to to a file with more --segments.\n",
+        b"line 36: The log has no room for this. Lines clean or --clean-when-full may make room. If they do not, copy the store "
+        b"with .copy or --copy-to to a file with more --segments.\n",
     ),
 ]
 
@@ -196,7 +196,7 @@ IDLE_SETTINGS = b"The settings have no effect: an existing store keeps its own.\
 
 
 LONG_KEY = b"The batch that line %d ended was not run. The command in line %d has a key that is longer than max-key of this store.\n"
-# Lines of a stream, with what is said of each refusal. %s is the folder of a copy.
+# Lines of a stream, with the explanation of each refusal. %s is the folder of a copy.
 REFUSED_IN_TURN = [
     (b"put a 1\nput abc 1\ngo\n", LONG_KEY % (3, 2)),
     (b"clean\n", b"line 4: The log is in one segment, so there is nothing to clean.\n"),
@@ -228,7 +228,7 @@ def explain_in_turn(programs: Programs) -> Outcome:
 
 
 def explain_closed_output(programs: Programs) -> Outcome:
-    """A copy that failed before has nothing to do with it."""
+    """The explanation of a closed output does not repeat that of a copy that failed before."""
     copy = b"/no/such/folder/copy"
     dialog = Dialog(programs.store, "--explain")
     dialog.send(b".copy %s\n" % copy)
@@ -265,7 +265,7 @@ UNREAD = b"line %d: There was not enough memory to read it.\n"
 
 
 def explain_long_line(programs: Programs) -> Outcome:
-    """Memory is insufficient for a line of a stream. Its batch is refused, and what is before and after it is answered. Without a line feed the line
+    """A line of a stream does not fit in memory. Its batch is refused, and the lines before and after it are answered. Without a line feed the line
     is skipped."""
     words: Command = [programs.store, "--stream", "--explain"]
     limits = Limits(memory=MEMORY)
@@ -339,7 +339,7 @@ def clean_ahead(programs: Programs) -> Outcome:
 
 
 def read_once(programs: Programs) -> Outcome:
-    """The log is read once for the cleans of a row, and not once for each."""
+    """The log is read once for a series of cleans, and not once for each."""
     with new_folder() as folder:
         path, cleans, rows = Path(folder) / "file", 0, 0
         dialog = Dialog(programs.store, "--disk", path, "--create", "--clean-when-full", *SMALL_STORE[:-1], "--segments=64")
@@ -386,7 +386,7 @@ def bytes_read(dialog: Dialog) -> int:
 
 
 def full_at_once(programs: Programs) -> Outcome:
-    """Two flushes of new pairs, which leave nothing dead, do not fit. The log is read once, and nothing is cleaned."""
+    """Two flushes of new pairs, which leave no dead bytes, do not fit. The log is read once, and nothing is cleaned."""
     with new_folder() as folder:
         path = Path(folder) / "file"
         dialog = Dialog(programs.store, "--disk", path, "--create", "--clean-when-full", *SMALL_STORE[:-1], "--segments=64")
@@ -404,8 +404,8 @@ def full_at_once(programs: Programs) -> Outcome:
 
 
 def bloated_and_full(programs: Programs) -> Outcome:
-    """A queue of 1,000 pairs fills a log without cleans. A flush that makes itself room compacts the tree, and cleans until this fits, although most of
-    the log lives until then."""
+    """A queue of 1,000 pairs fills a log without cleans. A flush with --clean-when-full compacts the tree, and cleans until the tree fits, although
+    most of the log was live before."""
     with new_folder() as folder:
         path = Path(folder) / "file"
         settings = ("--fan=64", "--chain=4", "--max-key=8", "--max-value=100", "--seg-size=16384", "--segments=100")
@@ -423,7 +423,7 @@ def bloated_and_full(programs: Programs) -> Outcome:
 
 
 def live_for_ever(programs: Programs, kind: str) -> Outcome:
-    """A queue of 500 pairs, 50 in and 50 out a flush, in 320 KB."""
+    """Runs a queue of 500 pairs in a log of 320 KB. Before each flush, 50 pairs are put and 50 deleted."""
     words: Command = [programs.store, *LONG_QUEUE, *kind.split(), "--clean-when-full"]
     lines = [b"put q%06d 1\n" % number for number in range(500)]
     for first in range(0, 1_500 * 50, 50):
@@ -433,6 +433,22 @@ def live_for_ever(programs: Programs, kind: str) -> Outcome:
     flushes = ran.out.count(b"flushed ")
     is_right = not ran.status and not ran.err and flushes == 1_500 and ran.out.endswith(b" 500\n")
     return Outcome(None if is_right else f"{flushes} flushes; {ran.describe()}")
+
+
+def keep_queue(programs: Programs, value: int, most: int, seg_size: int) -> Outcome:
+    """A queue of 1,000 pairs, with the log that docs/OPERATING.md advises."""
+    segments = -(-14 * (1_000 + most) * (8 + value + 10) // seg_size) + 1
+    words: Command = [programs.store, "--fan=64", "--chain=4", f"--seg-size={seg_size}", f"--segments={segments}", "--clean-when-full"]
+    lines = [b"put q%07d %s\n" % (number, b"v" * value) for number in range(1_000)]
+    for first in range(0, 20_000, most):
+        lines += [b"put q%07d %s\n" % (first + 1_000 + number, b"v" * value) for number in range(most)]
+        lines += [b"del q%07d\n" % (first + number) for number in range(most)] + [b"flush\n"]
+    ran = run(words, b"".join(lines) + b"verify\n")
+    is_right = not ran.status and not ran.err and ran.out.count(b"flushed ") == 20_000 // most and ran.out.endswith(b" 1000\n")
+    return Outcome(None if is_right else ran.describe(), measured=f"{segments} segments")
+
+
+QUEUES = [(8, 100, 32_768), (20, 500, 32_768), (100, 100, 65_536), (100, 500, 32_768), (100, 50, 32_768)]  # bytes of a value, pairs of a batch, seg_size
 
 
 def cases(programs: Programs) -> list[Case]:
@@ -456,5 +472,6 @@ def cases(programs: Programs) -> list[Case]:
         Case("cleans before the log is full", clean_before_full, (programs,)),
         Case("finds at once that no cleans make room", full_at_once, (programs,)),
         Case("makes room for a queue that has filled its log", bloated_and_full, (programs,)),
+        *(Case(f"keeps a queue with {row[0]} bytes a value, {row[1]} pairs a batch", keep_queue, (programs, *row)) for row in QUEUES),
         *(Case(f"keeps a queue with {kind}", live_for_ever, (programs, kind)) for kind in ("--fan=64 --chain=16", "--fan=16 --chain=4", "--fan=64 --chain=4")),
     ]

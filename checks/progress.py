@@ -113,8 +113,8 @@ def count_orders(programs: Programs) -> Outcome:
 
 
 def count_each_order(programs: Programs, library: Path) -> Outcome:
-    """Four batches, ended by `go`, by a flush or by the end, two flushes, and the order of --stat: of seven. The file's calls take so long that the
-    fifth order ends more than a second after the line of the third."""
+    """The seven orders are four batches, which `go`, a flush or the end ends, two flushes, and the order of --stat. The file's calls take so long
+    that the fifth order ends more than a second after the line of the third."""
     with new_folder() as folder:
         path = Path(folder) / "file"
         make(programs, path)
@@ -127,7 +127,7 @@ def count_each_order(programs: Programs, library: Path) -> Outcome:
 
 
 def count_lines(programs: Programs) -> Outcome:
-    """A stream shows its counts at the first batch a second later, and at the 256th line after a batch."""
+    """A stream shows its counts at the first batch after a second, and at the 256th line after a batch."""
     dialog = Dialog(programs.store, "--progress")
     dialog.send(b"put a 1\ngo\nput a 2\nflush\n")
     answers = [dialog.read_line(), dialog.read_line(), dialog.read_line()]

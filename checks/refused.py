@@ -77,8 +77,8 @@ def replies(held: OrderedMap, batch: list[list[bytes]]) -> list[bytes]:
 
 
 def play(session: "RefusedSession", refused: int) -> list[tuple[bytes, "Pairs | None"]]:
-    """Returns the outputs of a stream that refuses this batch or order, and the pairs that its file then has. A flush that is refused may have cleaned
-    the log before."""
+    """Returns the possible outputs of a stream in which this batch or order is refused, each with the pairs that the file then has. A refused flush
+    may have cleaned the log before."""
     is_cleaning = "--clean-when-full" in session.words
     kept = dict(session.states[0] or {}) if session.states else {}
     held = OrderedMap(kept)
@@ -126,8 +126,8 @@ class RefusedSession:
         return wrong_session(ran, self.answers, self.is_fault)
 
     def wrong_stream(self, ran: subprocess.CompletedProcess[bytes]) -> str | None:
-        """A stream answers at most one batch or order with fault 6, goes on with what was there before it, and ends with status 0. Or its store is not
-        opened, or its disk in memory fails, which ends it."""
+        """A stream answers at most one batch or order with fault 6, continues with the store as it was before, and ends with status 0. Or its store
+        is not opened, or its disk in memory fails, which ends it."""
         err = ran.stderr.replace(REFUSED, b"")
         if (ran.returncode, ran.stdout) == (4, b"") and self.is_fault(err):
             return None
@@ -138,7 +138,7 @@ class RefusedSession:
         return None if is_right else f"status {ran.returncode}, output {abbreviate(ran.stdout)}, errors {abbreviate(err)}"
 
     def outputs(self) -> dict[bytes, Pairs | None]:
-        """Returns the outputs of a stream of which one batch or order, or none, is refused, and the pairs of its file then."""
+        """Returns the possible outputs of a stream in which at most one batch or order is refused, each with the pairs that the file then has."""
         return {out: pairs for refused in range(-1, len(asks_of(self.text))) for out, pairs in play(self, refused)}
 
     def is_fault(self, err: bytes) -> bool:

@@ -37,7 +37,7 @@ def differing(what: object, found: object, expected: object) -> Wrong:
 
 # ---- Replies.
 
-# Requests in turn, and the replies by the words of server/README.md.
+# Requests, one after the other, and the replies that server/README.md defines.
 TABLE: list[tuple[Request, Reply]] = [
     (["PING"], b"PONG"),
     (["ping", "a b"], b"a b"),
@@ -226,7 +226,7 @@ class Writer(threading.Thread):
             return
 
     def find(self, pairs: Pairs) -> Wrong:
-        """The recovered pairs must be those after so many requests as were answered, or more. Goes on with them."""
+        """The recovered pairs must be those after all requests that were answered, or after more. Continues with these pairs."""
         own = {key: value for key, value in pairs.items() if key.startswith(b"%02d:" % self.number)}
         if own in self.states[self.answered :]:
             self.states = [own]
@@ -244,7 +244,7 @@ class Load:
     shortest: int = 0  # bytes of a value
     longest: int = 128
     seconds: float = 0.5  # at most, until the kill
-    before: int = 0  # pairs of a kilobyte in each store before, which is a new one then
+    before: int = 0  # pairs of a kilobyte that are put first; if there are some, each kill begins with a new store
 
 
 GROWING = Load(("--segments", str(LEAST_SEGMENTS)), 200, MOST_VALUE - 100, MOST_VALUE, seconds=1.0, before=1_500)
@@ -373,7 +373,7 @@ BROKEN = {
 
 
 def break_requests(server: Server) -> Wrong:
-    """A broken request ends its connection, after the answers to what came before it; one that is too long does so before it has come whole."""
+    """A broken request ends its connection after the requests before it are answered. One that is too long does so before all of it is received."""
     for text, message in BROKEN.items():
         with server.client() as client:
             client.socket.sendall(encode("SET", "a", "1") + text)
@@ -450,14 +450,14 @@ def connect_many(server: Server) -> Wrong:
 
 
 def run_out_of_descriptors(program: Path) -> Outcome:
-    """Connections for which there is no descriptor are served once others are closed."""
+    """Connections for which there is no descriptor are served after others are closed."""
     limited = ["sh", "-c", f'ulimit -n {CONNECTIONS * 3 // 4}; exec "$0" "$@"']
     with new_folder() as folder, serving(program, Path(folder) / "store", before=limited) as server:
         return Outcome(connect_many(server))
 
 
 def share_rounds(server: Server) -> Wrong:
-    """Clients that wait at one time share a flush."""
+    """Clients that wait at the same time share a flush."""
     def load(number: int) -> None:
         with server.client() as client:
             for value in range(50):
@@ -519,7 +519,8 @@ def clean(program: Path) -> Outcome:
 
 
 def fail_device(program: Path, library: Path, call: str) -> Outcome:
-    """After a failed write or sync the server ends, says why, and gives no answer to who waits. The file has what was answered."""
+    """After a failed write or sync the server prints why and ends, and clients that wait get no answer. The file has what was answered, or one
+    request more."""
     with new_folder() as folder:
         path = Path(folder) / "store"
         with serving(program, path) as server, server.client() as client:
@@ -544,7 +545,7 @@ def fail_device(program: Path, library: Path, call: str) -> Outcome:
 
 
 def flush_each_second(program: Path) -> Outcome:
-    """With `--flush 1` commands are durable after two seconds, and with each interval after SHUTDOWN."""
+    """With `--flush 1` commands are durable after two seconds, and with any interval after the server was stopped."""
     with new_folder() as folder:
         path = Path(folder) / "store"
         with serving(program, path, "--flush", "1") as server, server.client() as client:

@@ -1,12 +1,12 @@
-"""Runs the sessions of `checks/sessions/`, each in a folder of its own, and long ones that are made here.
+"""Runs the sessions of `checks/sessions/`, each in a folder of its own, and long sessions that are generated here.
 
     session NAME        begins a session, which is a list of steps
     $ bwsh WORDS        begins a step: the program is run with these words; if several such lines follow one another, once for each of them
     < LINE              a line of input
     > LINE              a line of standard output; `! LINE`, one of standard error. Their order is free
     exit N              the status, if it is not 0
-    file NAME N         afterwards this file has N bytes; `none`, there is no such file; `kept`, it is unchanged
-    zeros NAME N        before the next step this file is made of N zeros; `cut NAME N`, it is cut to this length
+    file NAME N         afterwards this file has N bytes; with `none`, there is no such file; with `kept`, it is unchanged
+    zeros NAME N        before the next step, N zeros are written to this file; with `cut NAME N`, it is cut to this length
 
 In a line, \\t, \\r and \\xFF are bytes, and \\ at its end means that no line feed follows. `<*3 LINE` is three such lines, and `<a-q LINE` one for
 each letter, which replaces the @. Empty lines and lines that begin with # are comments.

@@ -93,7 +93,7 @@ def two_leaves(left: int) -> bytes:
 
 
 def keep_quarters(programs: Programs, words: tuple[str, ...], line: bytes, answer: bytes) -> Outcome:
-    """Nothing is done to a leaf with a quarter of its entries. A leaf with fewer joins the one before it, and is gone with the root."""
+    """A leaf whose entries are a quarter of the fan stays. A leaf with fewer is merged into the leaf before it, and it and the root are freed."""
     for left, count, after in ((4, 0, b"ok 3 2 14\n"), (3, 2, b"ok 1 1 13\n"), (1, 2, b"ok 1 1 11\n"), (0, 2, b"ok 1 1 10\n")):
         plain = run([programs.store, *QUEUE, "--stat"], two_leaves(left) + b"flush\nverify\n")
         ran = run([programs.store, *QUEUE, "--stat", *words], two_leaves(left) + b"verify\n" + line + b"flush\nverify\n")
@@ -119,7 +119,8 @@ def compare_answers(programs: Programs, seed: int) -> Outcome:
 
 
 def flush_merged(programs: Programs) -> Outcome:
-    """The file has the merges before a session's only flush. Without --tidy the file has all emptied leaves, until a session that only flushes."""
+    """The only flush of a session with --tidy writes the merges. Without --tidy the file has all emptied leaves, until a session with --tidy flushes,
+    even if it does nothing else."""
     found = []
     with new_folder() as folder:
         for number, words in enumerate([(), ("--tidy=64",), (), ("--clean-when-full", "--tidy=64")]):
@@ -236,7 +237,7 @@ def refuse_merges(programs: Programs, library: Path) -> Outcome:
 
 
 def fill_with_pages(programs: Programs, path: Path, in_use: int) -> int:
-    """Makes a store of 20 pairs in many pages, in 32 segments of which at least so many are in use. Returns the number of its last key."""
+    """Makes a store of 20 pairs in many pages, which uses at least `in_use` of its 32 segments. Returns the number of its last key."""
     first, used = 0, 0
     run([programs.store, "--disk", path, "--create", *SMALL[:-1], "--segments=32"])
     while used < in_use and first < 4_000:
@@ -264,7 +265,7 @@ def compact(programs: Programs) -> Outcome:
 
 
 def refuse_compaction(programs: Programs, library: Path) -> Outcome:
-    """Two thirds of the log are in use. A session that is refused an allocation leaves the file as it was, or byte for byte as with that allocation."""
+    """Two thirds of the log are in use. A session with a refused allocation leaves the file unchanged, or with the same bytes as one without."""
     with new_folder() as folder:
         path = Path(folder) / "file"
         command: Command = [programs.store, "--disk", path, "--clean-when-full"]

@@ -17,7 +17,7 @@ from typing import IO
 TOP = Path(__file__).resolve().parent.parent
 PROGRAM = TOP / "crates/bwsh/out/bwsh"
 MEGABYTE = 1_000_000
-# KB. Programs need at most 64, of which random placement by the system may take 8.
+# KB. Programs need at most 64, and random placement by the system may take 8 of these.
 STACK = 56
 PATIENCE = 60  # seconds until a program is killed
 POLL_INTERVAL = 0.002  # seconds

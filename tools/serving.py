@@ -1,4 +1,4 @@
-"""The server `bwserve` as a program, and a small client of its own."""
+"""Runs the server `bwserve`, with a small client for it, a model of its pairs, and random requests."""
 
 import contextlib
 import random
@@ -35,7 +35,7 @@ def encode(*words: Word) -> bytes:
 
 
 class Client:
-    """A connection. `ask` returns a status and a value alike as bytes, and raises `Refused`."""
+    """A connection. `ask` returns statuses and values as bytes, and raises `Refused` for an error."""
 
     def __init__(self, port: int, patience: float = PATIENCE) -> None:
         self.socket = socket.create_connection(("127.0.0.1", port), timeout=patience)
@@ -52,7 +52,7 @@ class Client:
         return line[:-2]
 
     def read(self) -> Reply:
-        """Returns a reply; a refusal too."""
+        """Returns a reply, also if it is an error."""
         line = self.read_line()
         mark, rest = line[:1], line[1:]
         if mark == b"+":

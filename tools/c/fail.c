@@ -6,8 +6,9 @@
    cut, read, write, sync       setting its length, a read, a write, a sync
    thread                       starting a thread: this ends the program with FAIL_ERROR as its status
 
-   If FAIL_CUT is set, each read and each write of the file or of a stream takes a byte. If FAIL_WAIT is set, those of the file take so many milliseconds
-   more. It is loaded in front of the C library; `tools/failures.py` uses it. It includes nothing, since the kit has a compiler and no headers. */
+   If FAIL_CUT is set, each read and each write of the file or of a stream transfers one byte. If FAIL_WAIT is set, each read and each write of the
+   file takes FAIL_WAIT milliseconds more. This library is loaded in front of the C library; `tools/failures.py` uses it. It includes nothing, since
+   the kit has a compiler and no headers. */
 typedef __SIZE_TYPE__ size_t;
 
 int *__errno_location(void);

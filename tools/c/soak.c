@@ -1,5 +1,5 @@
-/* Is loaded in front of the C library, between the program and the file of its store. At the call SOAK_AT, or the allocation of that number, it makes the
-   failure SOAK_FAILURE, which is a letter:
+/* This library is loaded in front of the C library, between the program and the file of its store. At the call number SOAK_AT, or the allocation of
+   that number, it causes the failure SOAK_FAILURE, which is a letter:
 
    k, h, K  kills the program before the call, after half of a write, after the call
    f, F, s  fails the call; fails it after half of a write; as F, and each later write and sync of the file too
@@ -62,7 +62,7 @@ static int is_failing(char now) { return now == 'f' || now == 'F' || now == 's' 
 
 static int error_of(char now) { return now == 'i' ? EINTR : EIO; }
 
-/* A call without halves. What is noted of it is noted before the program is killed. */
+/* Makes a call that can't be done by half. If it succeeds, records `noted`, before the program may be killed. */
 static long whole(int is_stopped, const void *noted, size_t size, long number, long a, long b, long c, long d, long e) {
     char now = failure_now(0, is_stopped);
     if (is_failing(now) && !(now == 'i' && number == STATX)) {

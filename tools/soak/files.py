@@ -53,7 +53,7 @@ class CrashingFile:
         return self.path.read_bytes() if self.path.exists() else b""
 
     def begin(self) -> bytes:
-        """Takes the pending writes from the file, since they may have failed or been cut off."""
+        """Reads the bytes of the pending writes again from the file, since the writes may have failed or been cut off."""
         now = self.read()
         self.pending = [(place, now[place : place + len(written)]) for place, written in self.pending]
         return now

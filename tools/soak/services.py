@@ -11,12 +11,14 @@ from pathlib import Path
 
 from tools.answers import READ_ALL, token
 from tools.failures import DEVICE
+from tools.log.writing import Settings
 from tools.model import FULL, OrderedMap
 from tools.processes import NO_VARIABLES, PATIENCE, Command, PipedProgram
+from tools.soak.copied import file_of_copy, segments_for_copy
 from tools.soak.sessions import Difference
 
 COUNTED = ["stores", "batches", "commands", "flushes", "cleans", "compactions", "restarts", "kills", "full logs"]
-COUNTED += ["copies", "copies cut off", "copied over", "stores cut off"]
+COUNTED += ["full of pages", "copies", "copies refused", "copies cut off", "copied over", "stores cut off"]
 MAX_KEY, MAX_VALUE = 8, 100
 NO_STORE = b"fault 12 NotAStore\n"
 PLANTS = ("flush", "room", "copy", "leftover")
@@ -125,7 +127,8 @@ class ServiceSoak:
         if chance.random() < 0.3:
             self.cut_creation()
         self.make(self.path, "--create")
-        self.pairs, self.flushed, self.page_count = OrderedMap(), {}, 1
+        self.pairs, self.flushed, self.page_count, self.height = OrderedMap(), {}, 1, 1
+        self.is_cleaned = True  # whether each session since the store was made has cleaned
         self.sequence: int | None = 1  # None if it is unknown
         self.head: int | None = 0
 
@@ -141,22 +144,23 @@ class ServiceSoak:
         if ended.returncode or ended.stderr:
             raise Difference(f"{' '.join(map(str, words))} ended with {ended.returncode}, {ended.stderr!r}")
 
-    def read(self, path: Path) -> tuple[bytes, list[bytes], int]:
-        """Returns the error, or the rows and the number of pages of the store."""
+    def read(self, path: Path) -> tuple[bytes, list[bytes], int, int]:
+        """Returns the error, or the rows, the number of pages and the height of the store."""
         ended = self.run_on(path, text=READ_ALL)
         *rows, report = ended.stdout.splitlines() or [b""]
         words = report.split()
         if not ended.stderr and (words[:1] != [b"ok"] or int(words[3]) != len(rows) - 1):
             raise Difference(f"a session on {path.name} printed {report!r}, after {len(rows)} lines")
-        return ended.stderr, rows, 0 if ended.stderr else int(words[1])
+        pages, height = (0, 0) if ended.stderr else (int(words[1]), int(words[2]))
+        return ended.stderr, rows, pages, height
 
     def recover(self, *possible: Pairs) -> None:
-        """Compares the file with the states that it may hold, and goes on with the one that it holds."""
-        error, rows, pages = self.read(self.path)
+        """Compares the file with the states that it may hold, and continues with the one that it holds."""
+        error, rows, pages, height = self.read(self.path)
         for pairs in possible:
             if not error and rows == rows_of(pairs):
                 self.counts["compactions"] += 2 * pages < self.page_count and not self.tidying
-                self.pairs, self.flushed, self.page_count = OrderedMap(pairs), dict(pairs), pages
+                self.pairs, self.flushed, self.page_count, self.height = OrderedMap(pairs), dict(pairs), pages, height
                 return
         states = " or ".join(f"{len(pairs)} pairs" for pairs in possible)
         raise Difference(f"the file has {error or rows[:1]!r}, where {states} were expected")
@@ -206,8 +210,9 @@ class ServiceSoak:
         return False
 
     def run_session(self) -> bool:
-        """Returns whether the store can go on. Some sessions don't clean, and some read all their lines first."""
+        """Returns whether the store can be used further. Some sessions don't clean, and some read all their lines first."""
         before, is_cleaning = self.path.read_bytes(), self.chance.random() < 0.85
+        self.is_cleaned &= is_cleaning
         is_stream = self.chance.random() < 0.75
         words = ["--clean-when-full"] * (is_cleaning and self.plant != "room") + self.tidying + ["--stream"] * is_stream
         session = PipedProgram([self.program, "--disk", self.path, *words])
@@ -262,10 +267,12 @@ class ServiceSoak:
     # ---- Full logs.
 
     def is_large(self) -> bool:
-        """Returns whether the log has twice the room that the service needs at most. A tree of more than 4 pages for each `fan` pairs is compacted, and
-        a queue puts and deletes each key of a page once."""
+        """Returns whether the log is as large as docs/OPERATING.md advises for a queue, or has twice the room that the service needs at most. A tree of more
+        than 4 pages for each `fan` pairs is compacted, and a queue puts and deletes each key of a page once."""
         service = self.service
         pairs, entry = service.live + service.most, service.value + 13  # a key has 8 bytes, and two lengths and a flag have 5
+        if (self.fan, self.chain) == (64, 4) and 14 * pairs * (entry + 5) + self.seg_size <= self.segments * self.seg_size:
+            return True
         changes = 2 * self.fan
         if service.draw == service.updates:
             changes = self.chain * min(self.fan, 1 + 2 * service.most * self.fan // service.live)
@@ -273,27 +280,52 @@ class ServiceSoak:
         used_of_segment = self.seg_size - 25 - self.fan * entry
         return self.segments >= 8 and 2 * (4 * pairs // self.fan + 4) * page <= self.segments * used_of_segment
 
+    def is_bloated(self) -> bool:
+        return self.page_count > 4 * len(self.flushed) // self.fan + 4 * self.height
+
     def widen(self) -> bool:
-        """Copies the store into a log that is twice as long, as docs/OPERATING.md advises. A log that is large enough should not be full. One difference
-        is known: a session that does not clean can leave a full log with so many pages that no later flush can compact them."""
+        """Copies the store into a log that is twice as long, as docs/OPERATING.md advises. If all sessions have cleaned, a log that is large enough is never
+        full. But a session that does not clean can fill the log with so many pages that the next flush has no room to compact them. The copy has as
+        few pages as possible, and all sessions continue with it."""
         if self.is_large():
-            raise Difference(f"{self.segments} segments are full, with {len(self.flushed)} pairs and {self.page_count} pages")
+            if self.is_cleaned or not self.is_bloated():
+                raise Difference(f"{self.segments} segments are full, with {len(self.flushed)} pairs and {self.page_count} pages")
+            self.counts["full of pages"] += 1
         self.segments *= 2
         self.copy(0.3)
         return True
 
     # ---- Copies and new stores, and what a kill leaves of them.
 
+    def log_settings(self) -> Settings:
+        return Settings(self.fan, self.chain, MAX_KEY, MAX_VALUE, self.seg_size, self.segments)
+
     def copy(self, killed: float) -> None:
-        """Goes on with a copy of the store. Sometimes an earlier copy is killed."""
+        """Copies the store, and continues with the copy, whose file must have the bytes that docs/FORMAT.md defines. A copy writes whole pages, which
+        may need more room than the changes in the store's log. If the log is too small for them, the copy is refused, and the smallest log that has
+        room is used. Sometimes an earlier copy is killed."""
         if self.chance.random() < killed:
             self.cut_copy()
+        least = segments_for_copy(self.log_settings(), self.flushed)
+        if self.segments < least:
+            self.refuse_copy()
+            self.segments = least
         self.make(self.path, "--copy-to", self.copied)
         self.counts["copies"] += 1
+        if self.copied.read_bytes() != file_of_copy(self.log_settings(), self.flushed):
+            raise Difference("the copy's file has other bytes than those of its pages")
         self.copied.replace(self.path)
         self.sequence = self.head = None
-        self.page_count = 0
+        self.page_count, self.is_cleaned = 0, True
         self.recover(self.flushed)
+
+    def refuse_copy(self) -> None:
+        ended = self.run_on(self.path, "--copy-to", self.copied, *self.settings())
+        if (ended.returncode, ended.stdout, ended.stderr) != (4, b"", FULL):
+            raise Difference(f"a copy into {self.segments} segments ended with {ended.returncode}, {ended.stderr!r}")
+        if self.is_whole(self.copied, self.flushed):
+            raise Difference(f"a copy that {self.segments} segments have no room for is a store")
+        self.counts["copies refused"] += 1
 
     def cut_off(self, *words: object) -> None:
         command: Command = [self.program, *map(str, words), *self.settings()]
@@ -302,10 +334,10 @@ class ServiceSoak:
             child.kill()
 
     def is_whole(self, path: Path, pairs: Pairs) -> bool:
-        """Returns whether the file that was cut off is a store of these pairs. If it isn't, it must be no store."""
+        """Returns whether the file that a killed program left is a store of these pairs. If it isn't, it must hold no store."""
         if not path.exists() or path.stat().st_size == 0:
             return False
-        error, rows, _ = self.read(path)
+        error, rows, _, _ = self.read(path)
         if error != NO_STORE and (error or rows != rows_of(pairs)):
             raise Difference(f"{path.name}, which was cut off, has {error or rows[:1]!r}")
         return not error

@@ -158,7 +158,7 @@ class Soak:
         return session
 
     def spoil(self, session: SoakSession, drawn: DrawnStore) -> None:
-        """Sometimes adds what must be refused before the file is opened."""
+        """Sometimes adds an option or a line that must be refused before the file is opened."""
         if session.is_new and drawn.happens(0.03):
             ((name, value),) = drawn.bad_setting().items()
             session.words = [word for word in session.words if not word.startswith(f"--{name.replace('_', '-')}=")]
