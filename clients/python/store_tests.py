@@ -1,4 +1,4 @@
-"""Provides what the tests of the client share.
+"""Provides common parts of the client's tests.
 
 They run the program at the path in BWSH, by default the proved one.
 """
@@ -60,7 +60,7 @@ def run_threads(work: Callable[[], object], count: int) -> None:
 
 
 def unfinished_files() -> list[bytes]:
-    """Returns contents of files that hold no store, but may be left of one."""
+    """Returns the contents of an empty file and of unfinished ones, as docs/FORMAT.md defines them."""
     with new_folder() as folder:
         with Store(f"{folder}/store", create=True, program=PROGRAM, **SMALL, segments=8) as store:
             store.put(b"old", b"1")
@@ -85,7 +85,7 @@ def synced_folders(call: Callable[[], object]) -> list[Path]:
 
 @dataclass(frozen=True)
 class Unchecked:
-    """Is `command`, but of a class that the client does not know, so that only the program checks it."""
+    """Wraps `command` in a class that the client does not know, so that only the program checks it."""
 
     command: Command[Reply]
 

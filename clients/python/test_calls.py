@@ -21,7 +21,7 @@ from taukremil import StoreError, Wipe
 
 @dataclass(frozen=True)
 class ManyGets:
-    """Looks like one command to the client, and is `count` to the program."""
+    """Is one command for the client, but `count` commands for the program."""
 
     count: int
 
@@ -146,7 +146,7 @@ class Replies(StoreTest):
 
         @dataclass(frozen=True)
         class Meddle:
-            """Is a `get` that makes `call` before it reads the reply."""
+            """Represents a `get` that calls `call` before it reads the reply."""
 
             call: Callable[[], object]
 

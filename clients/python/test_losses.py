@@ -22,7 +22,7 @@ FAILS_AT_FLUSH = """\
         print("fault 9 Device", "full", sep="\\n", file=sys.stderr)
         sys.exit(4)
 """
-# The same, after the answer with which a stream whose disk has failed ends.
+# The same, but it first writes the answer with which a stream ends whose disk has failed.
 ANSWERS_AND_FAILS = FAILS_AT_FLUSH.replace("        print(", """\
         sys.stdout.buffer.write(b"fault 9 Device\\n")
         sys.stdout.buffer.flush()
@@ -520,7 +520,7 @@ class Losses(StoreTest):
         numbers = iter(range(1_000_000))
 
         def work() -> None:
-            """Puts and flushes until an exception, which says that batches since the last flush are lost."""
+            """Puts and flushes until an exception reports that the batches since the last flush are lost."""
             thread, put = next(numbers), set[bytes]()
             try:
                 for number in range(1_000_000):

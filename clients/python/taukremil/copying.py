@@ -13,8 +13,8 @@ from .program import run_once
 def write_copy(command: list[str], path: Path) -> None:
     """Copies the store that `command` opens to the file `path`, and syncs the file's folder.
 
-    The file must be missing, empty or unfinished, as docs/FORMAT.md says. Raises StoreError if there is no copy; the
-    file then stays what it was, or is empty or unfinished.
+    The file must be missing, empty or unfinished, as docs/FORMAT.md defines. Raises StoreError if there is no copy; the
+    file is then unchanged, empty or unfinished.
     """
     status, said = run_once([*command, f"--copy-to={path}"])
     # Python reports status 0 of a killed program if SIGCHLD is ignored. The first byte of a copy is written last.

@@ -105,7 +105,7 @@ class Lost(StoreError):
 
 
 def refusal_of(line: str, why: str) -> StoreError:
-    """Returns the exception for a refusal after which the program goes on."""
+    """Returns the exception for a refusal after which the program continues."""
     return Refused(line, why) if line.startswith("fault ") else StoreError(f"{line}: {why}" if why else line)
 
 

@@ -69,7 +69,7 @@ def first_byte(path: Path) -> bytes:
 
 
 def read_stat(path: Path) -> Stat:
-    """Returns the state of the log in the file `path`, to which nobody may write meanwhile."""
+    """Returns the state of the log in the file `path`, which must not be written meanwhile."""
     front = _read(path)
     *_, seg_size, segments = BLOCK.unpack_from(front)
     slots = [SLOT.unpack_from(front, at) for at in SLOTS_AT]

@@ -1,4 +1,4 @@
-"""Batches of puts, of which the next is sent while the program works at the one before."""
+"""Loads pairs in batches. The next batch is sent while the program executes the one before."""
 
 from __future__ import annotations
 

@@ -10,7 +10,7 @@ import tempfile
 from collections import deque
 
 READ_SIZE = 1 << 18  # bytes
-PIPE_SIZE = 1 << 20  # bytes, the most that Linux gives to any user
+PIPE_SIZE = 1 << 20  # bytes, the most that Linux by default allows without privileges
 PATIENCE = 60  # seconds until a program that does not end is killed
 REFUSALS = (b"fault ", b"line ")  # each refusal is one line that begins so
 DEVICE_FAILED = b"fault 9 Device"  # the last answer of a program whose disk has failed
@@ -26,7 +26,7 @@ class Unexpected(Exception):
 
 
 class Rejected(Exception):
-    """Signals that the program answered a request by `line`, a refusal, and goes on. `why` is its explanation.
+    """Signals that the program answered a request by `line`, a refusal, and continues. `why` is its explanation.
 
     `executed` is how many batches with writes of the same call were executed.
     """
@@ -114,8 +114,8 @@ class Program:
     def check_not_refused(self, is_copy: bool = False) -> None:
         """Raises `Rejected` if the next line is a refusal, and `Ended` if it is the program's last answer.
 
-        Must be called where an answer begins, because a line of rows can look like a refusal. After a copy whose file
-        fails the program goes on.
+        Must be called where an answer begins, because a line of rows can look like a refusal. The program continues
+        after a copy whose file fails.
         """
         line = self.line()
         if not line.startswith(REFUSALS):

@@ -208,7 +208,7 @@ class Store:
     def load(self, pairs: Iterable[Row], size: int = LOAD_SIZE) -> int:
         """Puts `pairs` in batches of `size`, and returns how many keys were new. Does not flush.
 
-        The next batch is sent while the program works at the one before. If `pairs` raises an error or a pair is wrong,
+        The next batch is sent while the program executes the one before. If `pairs` raises an error or a pair is wrong,
         the complete batches before are executed, and the error is raised. If a batch is refused, the next may have been
         sent, and is executed. Calls of other threads wait until the end.
         """
@@ -338,7 +338,7 @@ class Store:
             raise ValueError("a store cannot be copied to its own file")
 
     def _copy_beside(self, path: Path, settings: dict[str, int]) -> None:
-        """Copies the store while its program goes on."""
+        """Copies the store by a request to its program, which continues to run."""
         text = encode_copy(os.fsencode(path), settings.get("segments"))
 
         def talk(program: Program) -> tuple[None, int]:
@@ -353,7 +353,7 @@ class Store:
         sync_folder(path)
 
     def _copy_alone(self, path: Path, settings: dict[str, int]) -> None:
-        """Copies the store under other settings, for which its program is ended."""
+        """Copies the store with other settings. Ends its program before the copy, and starts it again after."""
         self._running_program()
         self._check_not_own(path)
         if self._unflushed:
@@ -410,7 +410,7 @@ class Store:
         self._retry(open_once)
 
     def _retry(self, call: Callable[[], T]) -> T:
-        """Runs `call` until no other process has locked the file, but no longer than `wait` says."""
+        """Repeats `call` while another process has locked the file, for at most `wait` seconds."""
         end = time.monotonic() + self._wait
         while True:
             try:
