@@ -5,7 +5,7 @@ use Rattle.std.specs.List.{fold, list_all, list_any}
 use Rattle.std.specs.Str.{bytes_eq}
 use Rattle.std.proofs.lemmas.Slice.Eq.{bytes_eq-Decides}
 use Rattle.clap.specs.Kinds.{HasKind, IsAmong, Kinds, or_else}
-use Rattle.clap.specs.Walk.{Held, Row, Rule, arg_by_id, arg_by_long, has_row, idle, nothing_held, is_synced, walk, walk_from, with_default}
+use Rattle.clap.specs.Walk.{Held, Row, Rule, arg_by_id, arg_by_long, has_row, idle, nothing_held, settled, walk, walk_from, with_default}
 use Rattle.clap.specs.Simple.{built, entered}
 use Rattle.clap.specs.declared.builder.value_parser.ValueParser.TheVariants as vp
 use Rattle.clap.specs.declared.builder.value_parser.Reading.TheVariants.{AsWritten, WithoutMinus}
@@ -185,7 +185,7 @@ faults_are : (words : List Text) → fault_of bwsh words ≡ rest_fault rules (s
 faults_are words =
     let end = (walk rules [] nothing_held words) in
     no_level nothing_held words end.stopped
-    ∙ nothing_after (walk_fault (shape rules) [] (walk_from nothing_held) words) (settle_fault rules false end.held) _ (defaults_pass number_defaults (is_synced rules end.held).rows refl)
+    ∙ nothing_after (walk_fault (shape rules) [] (walk_from nothing_held) words) (settle_fault rules false end.held) _ (defaults_pass number_defaults (settled rules end.held).rows refl)
 
 rows_are : (words : List Text) → matches_of bwsh words ≡ fold with_default (rest_rows rules (standing [] None idle false) words) built_rules
 rows_are words =

@@ -8,7 +8,7 @@ use Rattle.std.proofs.lemmas.Slice.Eq.{bytes_eq-Decides}
 use Rattle.std.proofs.lemmas.List.{map-append}
 use Rattle.std.proofs.lemmas.List.Elements.{All-nil, All-push}
 use Rattle.clap.specs.Kinds.{Kinds, or_else}
-use Rattle.clap.specs.Walk.{Row, Rule, Waiting, Walk, after_step, arg_by_id, has_row, idle, more_values, next as next_step, option, option_word, plain_word, is_synced, settled_rows, used_by_id, value, walked, with_values, without}
+use Rattle.clap.specs.Walk.{Row, Rule, Waiting, Walk, after_step, arg_by_id, has_row, idle, more_values, next as next_step, option, option_word, plain_word, settled, settled_rows, used_by_id, value, walked, with_values, without}
 use Rattle.clap.specs.Faults.{positional_fault, settle_fault, step_fault, turn_fault, use_fault, walk_fault}
 use Rattle.clap.specs.declared.error.kind.ErrorKind.{ErrorKind}
 use Rattle.clap.specs.declared.error.kind.ErrorKind.TheVariants.{ArgumentConflict, DisplayHelp, InvalidValue, UnknownArgument, ValueValidation}
@@ -117,7 +117,7 @@ abbrev pub rest_fault : List Rule → Walk → List Text → Kinds
 rest_fault c w words = or_else (walk_fault (shape c) [] w words) (settle_fault c false (fold (walked c []) w words).held)
 
 abbrev pub rest_rows : List Rule → Walk → List Text → List Row
-rest_rows c w words = (is_synced c (fold (walked c []) w words).held).rows
+rest_rows c w words = (settled c (fold (walked c []) w words).held).rows
 
 next_fault : (c : List Rule) (w : Walk) (word : Text) (rest : List Text)
     → rest_fault c w (word ∷ rest) ≡ or_else (turn_fault (shape c) [] w word) (rest_fault c (walked c [] w word) rest)
