@@ -32,7 +32,7 @@ alone h f (x ∷ xs) (suc i) v at e z =
     let rest = alone h f xs i v at (omega arith) (λ j u e k. z (suc j) u e k) in omega arith
 
 module _ {P : Type 0} (all : List P) (last : Slot P) (count : ℕ) where
-  -- what the hand knows of a closed table whose first word is w
+  -- what the pass state shows of a closed table whose first word is w
   pub record Ends (w : ℕ) (v : PassState P) (slots : List (Slot P)) : Type 0 where
     pub once : HasEachBelowOnce (length v.drawn) v.drawn
     pub many : length v.drawn ≡ min w (length all)

@@ -28,7 +28,7 @@ module _ {P : Type 0} (all : List P) (last : Slot P) (count : ℕ) where
   nothing_fits : (w : ℕ) → Fits all w (hand [] 0 [] 0)
   nothing_fits w = record { same_pieces = λ p. absurd (omega arith); few_misses = omega arith; miss_past_end = λ d. absurd (omega arith); below = below_none w; spent = λ _. refl }
 
-  -- where one hand is cut in two that fit
+  -- one pass state is split into two that fit
   splits : (id : ℕ) (v l r : PassState P) → l.misses + r.misses ≡ v.misses → l.passes + r.passes ≡ v.passes → length l.drawn + length r.drawn ≡ length v.drawn
       → ((x : ℕ) → times x l.drawn + times x r.drawn ≡ times x v.drawn)
       → ((w : ℕ) → Fits all w v → Fits all w l × Fits all w r) → Splits (Keeps all last count) id v l r

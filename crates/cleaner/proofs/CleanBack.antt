@@ -257,7 +257,7 @@ cleaned-store s st now file bytes h =
     let store = (clean-done s st file now bytes h).done.store in
     (ap (λ (x : Store). x.tree) store, ap (λ (x : Store). x.head) store, ap (λ (x : Store). x.sequence) store, ap (λ (x : Store). x.version) store)
 
--- it stays one as every store is, whatever its disk does
+-- it still satisfies the invariant of stores, whatever its disk does
 pub clean-kept : (s : Settings) (st now : Store) (file bytes : List ℕ) → IsStore s st → after_clean s st file ≡ left now bytes → IsStore s now
 clean-kept s st now file bytes is h =
     let c : IsClean s st file now bytes = clean-done s st file now bytes h in
@@ -279,7 +279,7 @@ clean-kept s st now file bytes is h =
       slot = next_good g st.sequence (slot_of st) (slot_of (store_after st.tree t)) text is.good was within refl done.number refl done.tail (omega arith) (omega (arith, more)) (omega (arith, free)) was.root was.height.0 was.height.1;
     })
 
--- and in step
+-- and stays in step
 pub clean-in_step : (s : Settings) (st now : Store) (file bytes : List ℕ) → IsStoreOf s st file → after_clean s st file ≡ left now bytes → IsStoreOf s now bytes
 clean-in_step s st now file bytes is h =
     let (on_disk, read, step) = is.step in

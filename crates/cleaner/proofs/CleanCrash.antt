@@ -61,7 +61,7 @@ clean-hidden s st now found file bytes c (on_disk, is, are) h read hid =
     (ap (λ (x : Store). log s file (slot_of x)) same ∙ read)
     (subst (λ (x : Store). IsUncommitted s (suc x.sequence) (spans s x.tail (clean_frames x.head found)) file c) (sym same) hid)
 
--- a crash at any moment of a clean leaves the store that the disk stood for, or all that the clean leaves
+-- a crash at any moment of a clean leaves the store that the disk encoded, or everything that the clean writes
 pub clean-crash : (s : Settings) (st now : Store) (file bytes c : List ℕ) → IsInStep s st file → after_clean s st file ≡ left now bytes → LeftDuring (clean_calls s st file) file c
     → (store_of_disk c ≡ store_of_disk file) ⊎ (c ≡ bytes)
 clean-crash s st now file bytes c (on_disk, is, are) h during =

@@ -19,7 +19,7 @@ use Rattle.recovery.proofs.DiskForms.{disk}
 use Rattle.cleaner.specs.AfterClean.{after_clean}
 use Rattle.cleaner.specs.CleanText.{clean_frames}
 
--- ---- row 15: every third flush writes a base, so that none of the head segment's lives
+-- ---- row 15: every third flush writes a base, so no frame of the head segment is live
 
 -- the frames found after commits that were written one after the other
 abbrev found_in_all : ℕ → List (List Frame) → List Found
@@ -29,7 +29,7 @@ found_in_all tail (text ∷ texts) = found_in_text S tail text ++ found_in_all (
 row_15 : clean_frames 0 (found_in_all 16 ((frame 0 (FullLeaf Whole [] []) ∷ []) ∷ (three ++ (three ++ (three ++ (three ++ (three ++ (run ∷ run ∷ [])))))))) ≡ []
 row_15 = refl
 
--- ---- row 16: bases live in the head segment, and a put is not flushed
+-- ---- row 16: live bases are in the head segment, and a put is not flushed
 
 abbrev two_slots : String → String → String → List ℕ
 two_slots slot_0 slot_1 following = disk slot_0 slot_1
@@ -83,7 +83,7 @@ row_16_read = refl
 row_16_again : after_clean S (in_memory One 1 464 7) (disk_after One) ≡ Err NothingToClean
 row_16_again = refl
 
--- and so in a log of version 2: the frames from before its upgrade are copied unchanged, and the version stays
+-- the same in a log of version 2: the frames from before its upgrade are copied unchanged, and the version stays
 of_version_two : after_clean S (in_memory Two 0 309 6) (disk_before Two) ≡ Ok (in_memory Two 1 464 7, disk_after Two)
 of_version_two = refl
 

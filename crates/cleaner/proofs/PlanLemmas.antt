@@ -46,7 +46,7 @@ left now bytes = Ok (now, bytes)
 
 -- ---- the log of a store
 
--- by what the log of a store is read
+-- the values by which the log of a store is read
 abbrev pub format_for : Settings → Store → Format
 format_for s st = format_of s (slot_of st)
 

@@ -5,7 +5,7 @@
 //! keeps its version.
 //!
 //! Laws: a clean keeps the store that the disk encodes; a crash during a clean leaves the old store or the new one.
-//! Other crates name items by this root, and laws by the public module `laws`.
+//! Other crates import items from this root, and laws from the public module `laws`.
 #![tactic(auto)]
 
 mod choose;

@@ -40,7 +40,7 @@ use Rattle.climb_plan.proofs.Planned.{never_unused, planned_are_levels}
 use Rattle.climb_plan.proofs.Untouched.{levels_above, height_by, same_tree}
 use Rattle.climb_plan.proofs.LevelParts.{level_of}
 
--- numbers among joined lists are among them the other way round, too
+-- a number in a concatenation of two lists is in their concatenation in the other order
 among_turned : (n : ℕ) (ms ns : List ℕ) → is_among n (ms ++ ns) ≡ is_among n (ns ++ ms)
 among_turned n ms ns = among-joined n ms ns ∙ or_turned (is_among n ms) (is_among n ns) ∙ sym (among-joined n ns ms)
 
@@ -96,7 +96,7 @@ module _ {A : Type 0} (s : Settings) (t : Tree) (cs : List (Command A)) (fan : 1
       let l : Levels = levels_of t in
       distinct_renewed (renewed-climb s (keys_of t.pages) 0 leaves_after l.level l.above keep_names proper.levels.stacked).1 (never_unused s t proper) proper.levels.distinct
 
-  -- no pid that is kept is one of those that go with the old root
+  -- no retained pid is one of those removed with the old root
   kept_apart : AreApart planned_pids (shrunk_pids whole.tower.above)
   kept_apart = (distinct_apart planned_pids (shrunk_pids whole.tower.above) (subst (λ (ns : List ℕ). Distinct ns) (kept_pids whole.tower.level whole.tower.above) whole_distinct)).0
 

@@ -32,7 +32,7 @@ module _ {X : Type 0} (test : X → Bool) (P : X → Type 0) where
   passing_by true x xs e p h = ((e, p), h)
   passing_by false x xs e p h = h
 
-  -- those that pass it, pass it, and what holds of all holds of them
+  -- the selected elements pass the test, and what holds for all elements holds for them
   pub all_passing : (xs : List X) → AllByRecursion P xs → AllByRecursion (λ y. (test y ≡ true) × P y) (filter test xs)
   all_passing [] h = tt
   all_passing (x ∷ xs) h = passing_by (test x) x (filter test xs) refl h.0 (all_passing xs h.1)
@@ -84,7 +84,7 @@ module _ {V : Type 0} where
   pub changing_rewritten : (ps : List (Placed ℕ)) (ws : List (Updated V)) → AreRewritten (changing_groups (changing_families ps ws))
   changing_rewritten ps ws = subst (λ (hs : List (List (Updated V))). AreRewritten hs) (sym (groups-changing_families ps ws)) (all_rewritten (all_groups (families ps ws)))
 
-  -- and so it is with the highest level, whose pages are one group
+  -- the same for the highest level, whose pages are one group
   pub top_in_order : (ws : List (Updated V)) (end : Option (List ℕ)) → Tiled (placed_of ws) end → AreInOrder (filter is_rewritten (ws ∷ []))
   top_in_order ws end h = rewritten_in_order (ws ∷ []) end (subst (λ (vs : List (Updated V)). Tiled (placed_of vs) end) (sym (append-nil ws)) h)
 

@@ -48,7 +48,7 @@ not_among : (n : ℕ) (ms : List ℕ) → AllByRecursion (λ m. m ≢ n) ms → 
 not_among n [] d = refl
 not_among n (m ∷ ms) d = or_from (nat_eq n m) (is_among n ms) (false_from_ne_true (nat_eq n m) (λ e. d.0 (sym (eqb-true n m e)))) (not_among n ms d.1)
 
--- ---- levels with the same names
+-- ---- levels with the same separators
 
 module _ {V W : Type 0} where
   first_pid-same : (ps : List (Placed V)) (qs : List (Placed W)) → names ps ≡ names qs → first_pid ps ≡ first_pid qs
@@ -212,7 +212,7 @@ module _ {V : Type 0} (s : Settings) (of : Page V → PageOfKind) (t : TreeInMem
         let a : i + (new_here + m) ≡ (i + length (all_fresh (family_changes s used i (families ps ws)))) + m = (let e = count in omega arith) in
         ap (λ (ns : List ℕ). unused ns m) same_in_use ∙ drawn.next m ∙ h.drawn (new_here + m) ∙ ap (λ (k : ℕ). unused used k) a
 
-    -- ---- what is taken
+    -- ---- the parents that are checked out
 
     runs_fit : length (map terms (changing_changes s used i changing_here)) ≡ length (parents_of changing_here)
     runs_fit = length-runs (all_terms_given s used i ps ws)
@@ -229,7 +229,7 @@ module _ {V : Type 0} (s : Settings) (of : Page V → PageOfKind) (t : TreeInMem
     pub taken_here : map (λ e. e.0) termed_here ≡ taken
     taken_here = term_parents taken (map terms (changing_changes s used i changing_here)) (runs_fit ∙ length-map changing_here (λ (c : Changing V). c.parent) ∙ sym (length-map changing_here (λ (c : Changing V). c.parent.pid)))
 
-    -- they become what the plan says
+    -- the results are those of the plan
     pub made_here : map (λ e. index_made s (parent_held rooms e)) termed_here ≡ updated_parents s (parents_of changing_here) (map terms (changing_changes s used i changing_here))
     made_here =
         let runs : List (List (List ℕ × Option ℕ)) = map terms (changing_changes s used i changing_here) in

@@ -29,7 +29,7 @@ module _ (t : Mapping PageOfKind) where
   page_there : (q : Placed ℕ) (run : List (List ℕ × Option ℕ)) → page_of t q.pid ≡ Some (Index q.page) → (let h : TermHeld = record { page = Index q.page; pid = q.pid; terms = run } in parent_held t (q.pid, run) ≡ h)
   page_there q run e = ap (λ (o : Option PageOfKind). (let h : TermHeld = record { page = page_or_none o; pid = q.pid; terms = run } in h)) e
 
-  -- they become what the plan says
+  -- the results are those of the plan
   pub termed_made : (s : Settings) (qs : List (Placed ℕ)) (runs : List (List (List ℕ × Option ℕ))) → AreHome Index t qs → length runs ≡ length qs → map (λ e. index_made s (parent_held t e)) (runs_by_parent (pids qs) runs) ≡ updated_parents s qs runs
   termed_made s [] runs h e = refl
   termed_made s (q ∷ qs) [] h e = absurd (omega arith)

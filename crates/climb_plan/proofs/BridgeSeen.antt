@@ -66,7 +66,7 @@ at_home_above t (up ∷ ups) h = (at_home_each t up h.0, at_home_above t ups h.1
 module _ {V : Type 0} (of : Page V → PageOfKind) where
   -- ---- pages as they are seen
 
-  -- the pages of a level that were seen are those of its pages as code has them
+  -- the pages of a level that were seen are those of its pages in the form of the code
   pub seen_in : (t : Mapping PageOfKind) {xs : List SeenPage} {ws : List (Updated V)} → AreSeen of t xs ws → AreSeenIn t xs (map (page_seen of) ws)
   seen_in t (AreSeen.none) = AreSeenIn.none
   seen_in t (AreSeen.updated w e r) = AreSeenIn.updated (page_seen of w) (seen_in t r)
@@ -91,7 +91,7 @@ module _ {V : Type 0} (of : Page V → PageOfKind) where
   rewritten_groups-page_seen f =
       ap (λ (gs : List (List SeenPage)). filter is_rewritten_seen gs) (groups-map (page_seen of) is_thin_seen f) ∙ filter-page_seen (groups is_thin f)
 
-  -- a parent whose family changes, as code has it
+  -- a parent whose family changes, in the form of the code
   abbrev pub rewriting_of : Changing V → Rewriting
   rewriting_of c = record { parent = c.parent.pid; groups = shown_groups c.groups }
 
@@ -143,7 +143,7 @@ module _ {V : Type 0} (of : Page V → PageOfKind) where
     names-page_seen (w ∷ ws) =
         ap (λ (n : List ℕ × ℕ). n ∷ map seen_name (map (page_seen of) ws)) (seen_name-page_seen w) ∙ ap (λ (ns : Separators). name w.placed ∷ ns) (names-page_seen ws)
 
-    -- a level in the course of a climb is one as code sees it
+    -- a level during a climb is one in the form of the code
     pub level_seen : (t : TreeInMemory) (xs : List SeenPage) (ws : List (Updated V)) (ps : List (Placed ℕ)) (ups : List (List (Placed ℕ))) (used : List ℕ) (i : ℕ) → IsLevel of t xs (level_of ws (ps ∷ ups) used i) → IsLevelSeen t (length ups) xs (map (page_seen of) ws) ps ups
     level_seen t xs ws ps ups used i h = record {
       seen = seen_in t.table h.seen;

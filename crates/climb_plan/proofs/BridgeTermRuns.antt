@@ -59,14 +59,14 @@ all_part P (IsPart.none) h = h
 all_part P (IsPart.kept x p) h = (h.0, all_part P p h.1)
 all_part P (IsPart.left_out y p) h = all_part P p h.1
 
--- a part of rising names rises
+-- a part of rising separators rises
 rising_part : {xs ys : Separators} → IsPart xs ys → IsRising ys → IsRising xs
 unfolding IsStrictlySortedBy
 rising_part (IsPart.none) h = h
 rising_part (IsPart.kept x p) h = (all_part (λ k. order x.0 k ≡ Less) p h.0, rising_part p h.1)
 rising_part (IsPart.left_out y p) h = rising_part p h.1
 
--- ---- the names of a family that changes rise
+-- ---- the separators of a family that changes rise
 
 module _ {V : Type 0} where
   freed_part : (s : Settings) (used : List ℕ) (i : ℕ) (gs : List (List (Updated V))) → IsPart (freed_of (changes s used i gs)) (placed_of (flat gs))
@@ -79,7 +79,7 @@ module _ {V : Type 0} where
   fresh_part [] = IsPart.none
   fresh_part (c ∷ cs) = part_append (without_first c.pages) (fresh_part cs)
 
-  -- the names that are freed, and those of new pages, rise
+  -- the separators of freed pages, and those of new pages, rise
   pub record HasRisingNames (s : Settings) (used : List ℕ) (c : Changing V) : Type 0 where
     pub freed : (i : ℕ) → IsRising (names (freed_of (changes s used i c.groups)))
     pub fresh : (i : ℕ) → IsRising (names (fresh_of (changes s used i c.groups)))

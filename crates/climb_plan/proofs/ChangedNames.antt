@@ -5,7 +5,7 @@ use Rattle.keys.specs.Lists.{flat}
 use Rattle.index_page.specs.Page.{PageOfKind}
 use Rattle.climb_plan.specs.Rewriting.{named_pages}
 
--- without pages, or without numbers, there are no names
+-- without pages, or without numbers, there are no separators
 pub named_none : (ps : List PageOfKind) (pids : List ℕ) → (ps ≡ []) ⊎ (pids ≡ []) → named_pages ps pids ≡ []
 named_none [] pids h = refl
 named_none (p ∷ ps) [] h = refl

@@ -28,7 +28,7 @@ told_all {A} {B} {X} of tell out all xs i l h = sym (append-nil out) ∙ ap (λ 
 pub taken_all : {A X : Type 0} (tell : A → X) (out : List X) (xs : List A) (i : ℕ) → length xs ≤ i → out ≡ map tell (take i xs) → out ≡ map tell xs
 taken_all {A} {X} tell out xs i l h = h ∙ ap (λ (ys : List A). map tell ys) (take_all i xs l)
 
--- the same where each element tells a list
+-- the same if the image of each element is a list
 pub joined_more : {A X : Type 0} (tell : A → List X) (out new all : List X) (xs : List A) (i : ℕ) (x : A) → i < length xs → x ≡ get_or xs i x → new ≡ out ++ tell x → out ++ flat_map tell (drop i xs) ≡ all → new ++ flat_map tell (drop (i + 1) xs) ≡ all
 joined_more {A} {X} tell out new all xs i x l e n h =
     let left : drop i xs ≡ x ∷ drop (i + 1) xs = drop_more xs i x l ∙ ap (λ (y : A). y ∷ drop (i + 1) xs) (sym e) in

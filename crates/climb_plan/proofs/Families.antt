@@ -32,12 +32,12 @@ module _ {X : Type 0} where
       ap (λ (rest : List X). take n xs ++ rest) (families_by_length ps (drop n xs) a) ∙ take-append-drop n xs
 
 module _ {V : Type 0} where
-  -- the families joined are the level that their parents name
+  -- the families, concatenated, are the level that their parents' entries describe
   pub families-joined : (ps : List (Placed ℕ)) (ws : List (Updated V)) → joined ps ≡ names (placed_of ws) → flat (families ps ws) ≡ ws
   families-joined ps ws l =
       families_by_length ps ws (ap (λ (ns : Separators). length ns) l ∙ length-map (placed_of ws) name ∙ length-map ws (λ (w : Updated V). w.placed))
 
-  -- a parent's entries, after its terms, name the pages that are made of its family
+  -- a parent's entries, after its terms, describe the pages that are made of its family
   entries_after : (s : Settings) (used : List ℕ) (i : ℕ) (p : Placed ℕ) (f : List (Updated V)) (end : Option (List ℕ)) → 0 < s.fan → entries p ≡ names (placed_of f) → Tiled (placed_of f) end → entries (updated s p (terms (changes s used i (groups is_thin f)))).placed ≡ names (new_of (changes s used i (groups is_thin f)))
   entries_after s used i p f end z e h =
       let run : List (List ℕ × Option ℕ) = terms (changes s used i (groups is_thin f)) in

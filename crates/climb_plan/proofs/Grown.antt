@@ -30,7 +30,7 @@ kept_over : (l : List (Placed ℕ)) (ls : List (List (Placed ℕ))) → is_lone 
 kept_over l [] e = rw e refl
 kept_over l (up ∷ ups) e = refl
 
--- each level that grows is cut from the names of two pages or more, so it is kept
+-- each level that grows is cut from the separators of two pages or more, so it is kept
 grown_by : {V : Type 0} (b : Bool) (enough : ℕ) (s : Settings) (used : List ℕ) (i : ℕ) (ps : List (Placed V)) → nat_lt 1 (length ps) ≡ b
     → ((j : ℕ) (up : List (Placed ℕ)) → kept_levels (grown_levels enough s used j up) ≡ grown_levels enough s used j up)
     → kept_levels (cond b (let up : List (Placed ℕ) = fresh_pages used i (cut s.fan (names ps)) in up ∷ grown_levels enough s used (i + length up) up) [])

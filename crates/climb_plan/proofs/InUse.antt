@@ -150,7 +150,7 @@ module _ (P : ℕ → Type 0) where
         above = (lone_first (climb s used j vs ups).tower.level up.first, up.above);
       }
 
-  -- ---- the levels that go with the old root
+  -- ---- the levels that are removed with the old root
 
   lone_hold : (ls : List (List (Placed ℕ))) → AllByRecursion (λ l. is_lone l ≡ true) ls → AllByRecursion HoldsIfLone ls → AllByRecursion P (flat_map pids ls)
   lone_hold [] a h = tt

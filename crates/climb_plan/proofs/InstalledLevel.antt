@@ -22,7 +22,7 @@ use Rattle.climb_plan.proofs.Installed.{updated_pids, IsInstalled}
 module _ {V : Type 0} where
   -- ---- a level
 
-  -- in the table after, the pages that are made of a level are at home, those that went have no place, and all but the
+  -- in the table after, the pages that are made of a level are in it, removed pages have no place, and all but the
   -- level and the fresh pages stayed
   pub record HasLevel (of : Page V → PageOfKind) (before after : Mapping PageOfKind) (ws : List (Updated V)) (new fresh : List (Placed V)) : Type 0 where
     pub home : AreHome of after new

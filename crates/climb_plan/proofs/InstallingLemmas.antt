@@ -174,7 +174,7 @@ home_here_by : (b : Bool) (t : Pages) (k : ℕ) (p : PageOfKind) → place_of (w
 home_here_by true t k p = place_here (log_outdated t k) k (Some p)
 home_here_by false t k p = place_here t k (Some p)
 
--- pages that came home are there
+-- pages that were put back are in the table
 pub home-all_come_home : (t : Pages) (xs : List SeenPage) → Distinct (map (λ x. x.pid) xs) → AllByRecursion (λ x. place_of (all_come_home t xs) x.pid ≡ Some (Some x.page)) xs
 home-all_come_home t [] d = tt
 home-all_come_home t (x ∷ xs) d =
@@ -305,7 +305,7 @@ logged-put_under t (k ∷ ks) (p ∷ ps) = logged-put_under (with_place t k (Som
 abbrev pub group_pids : Remade → List ℕ
 group_pids r = r.members ++ r.fresh
 
--- from one table to the next the group was replaced: its pieces are at home, its members but the first have no place, other
+-- from one table to the next the group was replaced: its pieces are in the table, its members but the first have no place, other
 -- places stayed, and the log states of the members became outdated
 pub record IsReplaced (t u : Mapping PageOfKind) (r : Remade) : Type 0 where
   pub pieces : AreUnder u (take 1 r.members ++ r.fresh) r.pieces

@@ -26,7 +26,7 @@ use Rattle.climb_plan.proofs.BridgeTermRuns.{freed_in, made_in, termed-page_seen
 use Rattle.climb_plan.proofs.LeveledDrawn.{drawn_away, drawn_back, AreGiven, numbers_given, all_given}
 use Rattle.climb_plan.proofs.LevelParts.{level_of}
 
--- what is made of what something holds
+-- two functions applied to a list, one after the other, if the result of the first is known
 through : {A B C : Type 0} (f : B → C) (g : A → B) (xs : List A) (ys : List B) → map g xs ≡ ys → map (λ x. f (g x)) xs ≡ map f ys
 through f g xs ys e = each f g xs ∙ ap (map f) e
   where
@@ -91,7 +91,7 @@ module _ {V : Type 0} (s : Settings) (of : Page V → PageOfKind) (kind : IsKind
       pub still_rising : AreRisingPids (pids_in_use u.table)
       still_rising = subst (λ (v : TreeInMemory). AreRisingPids (pids_in_use v.table)) (sym same_tree) (drawn_places (new_here s of t xs ws ps ups used i) t.table h.rising).rising
 
-      -- what became of the level
+      -- the result for the level
       pub all_changed : (after : TreeInMemory) (parents : List IndexUpdate) → map (λ d. d.made) parents ≡ map (λ e. index_made s (parent_held u.table e)) (terms_by_parent counts freed given)
           → map (λ d. d.held) parents ≡ map (parent_held u.table) (terms_by_parent counts freed given) → after ≡ with_table u (all_taken u.table (map (λ e. e.0) (terms_by_parent counts freed given)))
           → IsChanged s of t after (level_of ws ups used i) ps given parents
@@ -116,7 +116,7 @@ module _ {V : Type 0} (s : Settings) (of : Page V → PageOfKind) (kind : IsKind
 
 -- ---- a level whose pids were allocated
 
--- what holds of it then: its parents can get their runs and be taken, and what comes of that is what the plan makes of the level
+-- its properties then: its parents can get their runs and be checked out, and the result is the level that the plan makes of it
 pub record IsDrawn {V : Type 0} (s : Settings) (of : Page V → PageOfKind) (t u : TreeInMemory) (l : LevelPlan V) (ps : List (Placed ℕ)) (counts : List (ℕ × ℕ)) (freed : List (List (List ℕ × ℕ))) (given : List Remade) : Type 0 where
   pub rising : AreRisingPids (pids_in_use u.table)
   pub names : CanTakeTerms counts freed given

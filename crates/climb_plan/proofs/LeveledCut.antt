@@ -14,7 +14,7 @@ use Rattle.climb_plan.proofs.BridgeSeen.{rewriting_counts-page_seen, groups-page
 use Rattle.climb_plan.proofs.LevelParts.{level_of}
 
 module _ {V : Type 0} (of : Page V → PageOfKind) (kind : IsKind of) (t : TreeInMemory) (xs ys : List SeenPage) (depth : ℕ) (same : ys ≡ xs) where
-  -- code sees the level
+  -- the level in the form of the code
   pub level_in_sight : (ws : List (Updated V)) (ps : List (Placed ℕ)) (ups : List (List (Placed ℕ))) (used : List ℕ) (i : ℕ) → IsLevel of t xs (level_of ws (ps ∷ ups) used i) → depth ≡ length ups → IsLevelSeen t depth ys (map (page_seen of) ws) ps ups
   level_in_sight ws ps ups used i h e =
       subst (λ (zs : List SeenPage). IsLevelSeen t depth zs (map (page_seen of) ws) ps ups) (sym same) (subst (λ (n : ℕ). IsLevelSeen t n xs (map (page_seen of) ws) ps ups) (sym e) (level_seen of kind t xs ws ps ups used i h))

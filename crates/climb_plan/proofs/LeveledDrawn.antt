@@ -46,7 +46,7 @@ pub length-with_numbers : (used : List ℕ) (i : ℕ) (rs : List Remade) → len
 length-with_numbers used i [] = refl
 length-with_numbers used i (r ∷ rs) = ap suc (length-with_numbers used (i + (length r.pieces - 1)) rs)
 
--- ---- places that are given back
+-- ---- places that are freed again
 
 module _ (t : Mapping PageOfKind) (rising : AreRisingPids (pids_in_use t)) (n : ℕ) where
   -- the pids, and the table after they were allocated
@@ -64,7 +64,7 @@ module _ (t : Mapping PageOfKind) (rising : AreRisingPids (pids_in_use t)) (n : 
       each [] h = tt
       each (m ∷ ms) h = (away-place t rising n m h.0, each ms h.1)
 
-  -- to give them back gives the table back
+  -- freeing them restores the table
   pub drawn_back : IsOldWithoutPlace t → freed_all rooms fresh ≡ t
   drawn_back logs = freed-back t rooms fresh n rising (drawn-away t rising n) logs
 

@@ -53,10 +53,10 @@ module _ {V : Type 0} (of : Page V → PageOfKind) (t : Mapping PageOfKind) wher
 pub some_seen : {D : Type 0} (f : D → SeenPage) (ds : List D) → 0 < length ds → 0 < length (map f ds)
 some_seen f ds h = subst (λ (n : ℕ). 0 < n) (sym (length-map ds f)) h
 
--- ---- levels grow above names
+-- ---- levels grow above separators
 
 module _ {V W : Type 0} where
-  -- above pages of the same names the same levels grow
+  -- above pages with the same separators the same levels grow
   grown_levels-named : (n : ℕ) (s : Settings) (used : List ℕ) (i : ℕ) (ps : List (Placed V)) (qs : List (Placed W)) → names ps ≡ names qs → grown_levels n s used i ps ≡ grown_levels n s used i qs
   grown_levels-named zero s used i ps qs e = refl
   grown_levels-named (suc n) s used i ps qs e =
@@ -72,7 +72,7 @@ module _ {V W : Type 0} where
   top-named (p ∷ ps) (q ∷ qs) [] e = let here : name p ≡ name q = cc in ap (λ (x : List ℕ × ℕ). x.1) here
   top-named ps qs (up ∷ ups) e = refl
 
--- index pages of these names
+-- index pages of these separators
 abbrev pages_named : Separators → List (Placed ℕ)
 pages_named ns = map (λ n. placed_bare n.1 n.0 []) ns
 
@@ -100,7 +100,7 @@ module _ {V : Type 0} (of : Page V → PageOfKind) (kind : IsKind of) where
       ∙ ap (λ (k : List ℕ). pair k w.placed.pid ∷ []) (sym l)
       ∙ ap (λ (b : Bool). names ((remade_by b s used i w [] ++ []) ++ [])) (sym e)
 
-  -- what code says of the pages of the highest level, the plan says of those that it makes
+  -- a property of the pages of the highest level in the code holds for the pages of the plan
   names_here : (s : Settings) (used : List ℕ) (i : ℕ) (ws : List (Updated V)) (root : ℕ) → length ws ≡ 1 → root ≡ top_pid (placed_of ws) [] → next_low (placed_of ws) None ≡ Some []
       → top_names root (map (remade_of of) (changes s used i (filter is_rewritten (ws ∷ [])))) ≡ names (all_new (changes s used i (ws ∷ []) ∷ []))
   names_here s used i [] root e r l = absurd (omega arith)
@@ -120,8 +120,8 @@ module _ {V : Type 0} where
 
 -- ---- the level
 
--- of the highest level after the numbers of its new pieces were drawn: levels can grow above it, and with those that code grows it has become
--- what the plan makes of it; what grows above index pages of the same names, if as many were drawn, is what grows above it
+-- the highest level after page ids were allocated for its new pages: levels can be added above it, and with the levels that the code adds it becomes
+-- what the plan makes of it; above index pages with the same entries, if as many page ids are allocated, the same levels are added
 pub record IsTopDrawn {V : Type 0} (s : Settings) (of : Page V → PageOfKind) (t u : TreeInMemory) (ws : List (Updated V)) (used : List ℕ) (i : ℕ) (given : List Remade) : Type 0 where
   pub some : 0 < length (top_names u.root given)
   pub named : IsRising (top_names u.root given)
@@ -195,7 +195,7 @@ module _ {V : Type 0} (s : Settings) (of : Page V → PageOfKind) (kind : IsKind
     names_top : top_names t.root given ≡ names (all_new made_here)
     names_top = ap (λ (rs : List Remade). top_names t.root rs) is ∙ names_here of kind s used i ws t.root one_page h.root h.first
 
-    -- index pages that are named as those that are made
+    -- index pages with the same separators as the new ones
     abbrev like_top : List (Placed ℕ)
     like_top = pages_named (names (all_new made_here))
 
@@ -248,7 +248,7 @@ module _ {V : Type 0} (s : Settings) (of : Page V → PageOfKind) (kind : IsKind
           too_high = λ l. subst (λ (ls : List (List (Placed ℕ))). 64 < t.height + length ls) grown_same l;
         }
 
-  -- as code has it
+  -- in the form of the code
   pub top_drawn : 0 < length xs → (u : TreeInMemory) (groups old new rest given : List Remade) (n : ℕ) → groups ≡ map (cut_group s) (filter is_rewritten_seen (xs ∷ [])) → old ≡ groups
       → AreGiven t.table old new → length old ≡ n → given ≡ take n (new ++ rest) → u ≡ numbers_drawn t old → IsTopDrawn s of t u ws used i given
   top_drawn some u groups old new rest given n made same numbers_so len whole drawn =

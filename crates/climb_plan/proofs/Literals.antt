@@ -1,5 +1,5 @@
--- What the worked rows are written in, besides the settings and keys of `keys` and the pages and trees of `mapping`: values,
--- commands, pairs, and trees after batches. docs/EXAMPLES.md numbers the rows.
+-- Notation for the worked rows, in addition to the settings and keys of `keys` and the pages and trees of `mapping`: values, commands, pairs, and
+-- trees after batches. docs/EXAMPLES.md numbers the rows.
 use Rattle.std.specs.Prelude.{ℕ, ◌+◌, List, [], ◌∷◌, map, Option, Some}
 use Rattle.keys.specs.declared.command.Command.{Command}
 use Rattle.keys.specs.declared.command.Command.TheVariants.{Put, Del}
@@ -57,7 +57,7 @@ with_log logged t = record t { logged = logged }
 abbrev pub bases_of : List ℕ → List (ℕ × Logged)
 bases_of pids = map (λ pid. (pid, Upto 0)) pids
 
--- the tree of a new store, but that the log has nothing: most rows don't speak of the log
+-- the tree of a new store, with nothing in the log: most rows are not about the log
 abbrev pub fresh : Tree
 fresh = with_log [] first_tree
 

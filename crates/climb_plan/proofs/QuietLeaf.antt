@@ -166,7 +166,7 @@ stays_high t level ls h r e n =
       height = n ∙ ap (λ (ups : List (List (Placed ℕ))). suc (length ups)) (sym kept);
     }
 
--- ---- the leaf comes back
+-- ---- the leaf is put back
 
 -- a page as it is seen that is no reason either
 pub record IsSeenQuiet (x : SeenPage) : Type 0 where

@@ -143,7 +143,7 @@ module _ {A : Type 0} (s : Settings) (fan : 1 < s.fan) (t : Tree) (cs : List (Co
           let less = kept_are_no_more (batch_climb s t cs).tower.above in
           omega arith
 
--- ---- as code has it
+-- ---- in the form of the code
 
 module _ (A : Type 0) (s : Settings) (fan : 1 < s.fan) (m : TreeInMemory) (xs : List SeenPage) (height : ℕ) (is : height ≡ m.height) where
   -- there are commands for which the tree is ready

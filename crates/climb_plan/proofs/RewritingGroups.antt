@@ -98,7 +98,7 @@ group_at {X} (g ∷ gs) (suc i) l =
     let e : suc (i + 1) ≡ suc i + 1 = omega arith in
     (r.0, r.1 ∙ ap (λ (k : ℕ). r.0 ∷ drop k (g ∷ gs)) e, r.2)
 
--- the first i groups are dealt with; the remaining ones begin at `start`
+-- the first i groups are done; the remaining ones begin at `start`
 module _ (children : List Seen) (sizes : List ℕ) (all : List (List SeenPage)) where
   pub record IsDealt (start i : ℕ) (made : List (List SeenPage)) : Type 0 where
     pub most : start ≤ length children

@@ -33,7 +33,7 @@ use Rattle.climb_plan.proofs.InstalledPages.{at_among}
 use Rattle.climb_plan.proofs.Installing.{tree_under}
 use Rattle.climb_plan.proofs.InstallingLemmas.{AreUnder, home-put_under, others-put_under, rising-put_under, logged-put_under, none_joined, none_each, none_after, each_other}
 
--- ---- places are given up
+-- ---- places are removed
 
 abbrev pub tree_less : TreeInMemory → List ℕ → TreeInMemory
 tree_less tree pids = record tree { table = freed_all tree.table pids }
@@ -59,7 +59,7 @@ pub away_drawn : (tree drawn : TreeInMemory) (n : ℕ) (ks all : List ℕ) → A
 away_drawn tree drawn n ks all d e f =
     subst (λ (x : List ℕ). AreAway drawn.table x) (sym f) (d.away, subst Distinct (sym e) (distinct_drawn (pids_in_use tree.table) 0 n))
 
--- ---- names
+-- ---- separators
 
 abbrev Separator : Type 0
 Separator = List ℕ × ℕ
@@ -373,7 +373,7 @@ module _ (s : Settings) (ns : List Separator) (pages : List PageOfKind) (fresh :
         let more : 64 < height + length (up ∷ above) = omega arith in
         subst (λ (ls : List (List (Placed ℕ))). 64 < height + length ls) (sym grown_is) more
 
--- the parts of a level that is cut, as code has them
+-- the parts of a level that is cut, in the form of the code
 pub cut_is : (s : Settings) (ns : List Separator) (pages lent : List PageOfKind) (fresh : List ℕ) (upper : List Separator) (tree drawn : TreeInMemory) → 1 < s.fan → 0 < length ns → (length ns ≡ 1 → ⊥) → IsRising ns → pages ≡ map index_of_base (cut s.fan ns) → lent ≡ pages
     → fresh ≡ fresh_pids (pids_in_use tree.table) (length lent) → upper ≡ named_pages lent fresh → AreDrawn tree drawn fresh → IsCut s ns pages fresh upper tree drawn
 cut_is s ns pages lent fresh upper tree drawn f some one r p l e u d = record {

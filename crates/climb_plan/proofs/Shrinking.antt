@@ -279,7 +279,7 @@ module _ {V : Type 0} (t : TreeInMemory) (level : List (Placed V)) where
 
 -- ---- the steps of the loop
 
--- whatever levels could shrink before are on their way now
+-- all levels that could shrink at first have shrunk as far as the tree now
 abbrev pub AreOnTheWay : TreeInMemory → TreeInMemory → Type 0
 AreOnTheWay before now = (level : List (Placed (List ℕ))) (ls : List (List (Placed ℕ))) → CanShrink before level ls → Shrinks before now level ls
 

@@ -34,7 +34,7 @@ pub record IsSmall {V : Type 0} (s : Settings) (IsShort : V → Type 0) (p : Pla
   pub fit : Fits s IsShort p.page
   pub low : length p.page.low ≤ s.max_key
 
--- and a page after its run, but that a fat one may have too many entries
+-- and a page after its run, except that a fat one may have too many entries
 pub record IsSmallUnlessFat {V : Type 0} (s : Settings) (IsShort : V → Type 0) (w : Updated V) : Type 0 where
   pub fit : is_fat w ≡ false → Fits s IsShort w.placed.page
   pub changes : AllByRecursion (IsShortChange s IsShort) (said w.placed.page)

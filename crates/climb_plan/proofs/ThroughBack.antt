@@ -124,7 +124,7 @@ module _ {V : Type 0} (s : Settings) (fan : 1 < s.fan) (of : Page V → PageOfKi
       let table : back.table ≡ rooms_here = ap (λ (u : TreeInMemory). u.table) q ∙ parents_are_back in
       subst (λ (u : Mapping PageOfKind). AreAway u (flat_map (λ r. r.fresh) groups)) (sym table) (subst (λ (ms : List ℕ). AreAway rooms_here ms) (sym fresh_are_drawn) away)
 
--- ---- as code has it
+-- ---- in the form of the code
 
 module _ {V : Type 0} {of : Page V → PageOfKind} {s : Settings} {w : Working} {xs : List SeenPage} {groups : List Remade} (k : IsWorkedOn of s w xs groups)
     {now : TreeInMemory} {held : List IndexUpdate} (stays : now ≡ w.ready) (same : held ≡ w.parents) where

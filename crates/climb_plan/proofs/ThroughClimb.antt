@@ -156,7 +156,7 @@ pids_of_map f (d ∷ ds) = ap (λ (ns : List ℕ). (f d).pid ∷ ns) (pids_of_ma
 pub away_for : {D : Type 0} (f : D → SeenPage) (t : TreeInMemory) (ds : List D) → AreAway t.table (seen_pids (map f ds)) → AreAway t.table (map (λ d. (f d).pid) ds)
 away_for f t ds a = subst (λ (ns : List ℕ). AreAway t.table ns) (pids_of_map f ds) a
 
--- the same level, as it was handed on
+-- the same level, as it was passed to the callee
 module _ {V D : Type 0} (of : Page V → PageOfKind) (f : D → SeenPage) where
   pub children_for : (t : TreeInMemory) (ds es : List D) (depth : ℕ) → es ≡ ds → (depth ≡ 0 → ⊥) → SomeLevel of t (map f ds) depth → SomeChildren of t (map f es) (depth - 1)
   children_for t ds es depth q d l = some_children of t (map f ds) (map f es) depth (ap (λ (xs : List D). map f xs) q) d l

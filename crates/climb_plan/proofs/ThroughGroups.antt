@@ -89,7 +89,7 @@ module _ {V : Type 0} (s : Settings) (used : List ℕ) where
   -- ---- groups
 
   module _ (of : Page V → PageOfKind) where
-    -- what code makes of groups
+    -- the result of the code for groups
     abbrev pub remade_all : ℕ → List (List (Updated V)) → List Remade
     remade_all i gs = map (remade_of of) (changes s used i gs)
 

@@ -186,7 +186,7 @@ module _ {V : Type 0} (s : Settings) (of : Page V → PageOfKind) (t u : TreeInM
       let grew : levels ≡ u.height + length above_here = c.height ∙ ap (λ (n : ℕ). n + length above_here) (sym c.grown.height) in
       top-climbed s used i ws h.stacked h.old of t u tree_after made_ready c.grown.new (record { level = after_level; rising = rising; logged = after_logged }) c.root grew
 
-  -- as code has it
+  -- in the form of the code
   pub top_through : (home replaced after : TreeInMemory) → home ≡ record u { table = top_home } → replaced ≡ record home { table = all_installed home.table given } → after ≡ record replaced { root = pid; height = levels } → HasClimbed of t after (level_of ws [] used i) (climb s used i ws [])
   top_through home replaced after p q r =
       let whole : Mapping PageOfKind → TreeInMemory = λ v. record { table = v; root = pid; height = levels } in
@@ -194,7 +194,7 @@ module _ {V : Type 0} (s : Settings) (of : Page V → PageOfKind) (t u : TreeInM
       r ∙ ap (λ (v : TreeInMemory). whole v.table) q ∙ ap (λ (v : TreeInMemory). whole (all_installed v.table given)) p ∙ ap (λ (rs : List Remade). whole (all_installed top_home rs)) c.groups in
       subst (λ (v : TreeInMemory). HasClimbed of t v (level_of ws [] used i) (climb s used i ws [])) (sym is) through_here
 
--- ---- as code has it
+-- ---- in the form of the code
 
 module _ {V : Type 0} (of : Page V → PageOfKind) (t : TreeInMemory) (xs : List SeenPage) where
   alone_by : (ws : List (Updated V)) (ups : List (List (Placed ℕ))) (used : List ℕ) (i : ℕ) → IsLevel of t xs (level_of ws ups used i) → 0 ≡ length ups → IsLevel of t xs (level_of ws [] used i)
@@ -223,7 +223,7 @@ module _ {V : Type 0} (of : Page V → PageOfKind) (t : TreeInMemory) (xs : List
   pub top_high : (s : Settings) → ((l : LevelPlan V) → IsLevel of t xs (alone l) → 64 < t.height + length (climb_of s (alone l)).tower.above) → IsTooHighFrom of s t xs 0
   top_high s f l h e = high_by s f l.updated l.above l.used l.from h e
 
--- the same of the level as it was handed on
+-- the same of the level as it was passed to the callee
 pub changed_for : {V D : Type 0} (s : Settings) (of : Page V → PageOfKind) (t u : TreeInMemory) (given : List Remade) (pid levels : ℕ) (seen : D → SeenPage) (ds lent : List D) → lent ≡ ds
     → TopChangesFrom of s t u (map seen lent) given pid levels → TopChangesFrom of s t u (map seen ds) given pid levels
 changed_for s of t u given pid levels seen ds lent e changed = subst (λ (es : List _). TopChangesFrom of s t u (map seen es) given pid levels) e changed

@@ -50,7 +50,7 @@ module _ {V : Type 0} (of : Page V → PageOfKind) where
   ClimbsFrom s before after xs depth =
       (l : LevelPlan V) → IsLevel of before xs l → depth ≡ length l.above → HasClimbed of before after l (climb_of s l)
 
-  -- they would be too many levels
+  -- the tree would have too many levels
   abbrev pub IsTooHighFrom : Settings → TreeInMemory → List SeenPage → ℕ → Type 0
   IsTooHighFrom s t xs depth =
       (l : LevelPlan V) → IsLevel of t xs l → depth ≡ length l.above → most_levels + length l.above < t.height + length (climb_of s l).tower.above

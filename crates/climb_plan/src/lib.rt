@@ -2,8 +2,8 @@
 //!
 //! `specs/` defines the plan of a batch, and `laws` has the laws about it. The climb makes the tree of that plan, level
 //! by level from the leaves up: it finds the groups that are rewritten, makes their new pages, and computes the runs
-//! for their parents. Then it changes the mapping table, from the root down. Other crates name items by this root, and
-//! laws by the public module `laws`.
+//! for their parents. Then it changes the mapping table, from the root down. Other crates import items from this root,
+//! and laws from the public module `laws`.
 #![tactic(auto)]
 
 mod ascent;

@@ -105,7 +105,7 @@ flat_of : {X Y : Type 0} (f : X → List Y) (xs : List X) → flat_map f xs ≡ 
 flat_of f [] = refl
 flat_of f (x ∷ xs) = ap (λ ys. f x ++ ys) (flat_of f xs)
 
--- a list handed on as a slice that keeps its length
+-- a list that is passed on as a slice, which keeps its length
 pub taken : {X : Type 0} (n : ℕ) (new old : List X) → length new ≡ n → take n (new ++ drop (length new) old) ≡ new
 taken n new old e = ap (λ k. take k (new ++ drop (length new) old)) (sym e) ∙ take_front new (drop (length new) old)
   where
@@ -183,7 +183,7 @@ module _ {W J D : Type 0} (g : Work.Ghosts W J D) where
       left_or from n true e later a = omega arith
       left_or from n false e later a = let apart : from ≢ n = grind (arith, nat_tests) in let h = later (omega arith) in omega arith
 
-  -- ---- the hands
+  -- ---- the states of the workers
 
   hands_worked : (w : W) (board : Board (Vec J Global)) (hands : List (WorkerState J D)) → AllByRecursion (IsHandOf g w board) hands
       → AllByRecursion (IsWorkedOf g w (pieces_of board)) (flat_map (λ hand. hand.worked.items) hands)
@@ -213,7 +213,7 @@ module _ {W J D : Type 0} (g : Work.Ghosts W J D) where
       (get_map (held_in g) pieces number piece at ∙ ap Some (sym origin), makes ∙ ap (map (g.made w)) (sym origin))
   is_worked w pieces number piece (Err again) at makes origin back = (get_map (held_in g) pieces number piece at ∙ ap Some (sym back), tt)
 
-  -- ---- hands that are dealt
+  -- ---- states that are handed out to the workers
 
   hand_of : (w : W) (board : Board (Vec J Global)) (hands : List (WorkerState J D)) (passes : List (Pass (Vec J Global))) → map (λ hand. hand.pass) hands ≡ passes
       → AllByRecursion (λ hand. hand.worked.items ≡ []) hands → AllByRecursion (IsNewPassOf board) passes → AllByRecursion (IsHandOf g w board) hands

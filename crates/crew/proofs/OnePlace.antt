@@ -97,7 +97,7 @@ module _ {J D : Type 0} where
       count-append n (flat_map numbers s.board ++ flat_map hand_numbers s.hands) (numbers s.home)
       ∙ ap (λ c. c + at_home n s.home) (count-append n (flat_map numbers s.board) (flat_map hand_numbers s.hands))
 
-  -- ---- a hand that changes
+  -- ---- a worker state that changes
 
   hand_changes : (n : ℕ) (hands : List (WorkerState J D)) (w : ℕ) (old new : WorkerState J D) → slice_get hands w ≡ Some old
       → in_hands n (set hands w new) + in_hand n old ≡ in_hands n hands + in_hand n new

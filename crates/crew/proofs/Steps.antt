@@ -73,19 +73,19 @@ brings_none p w h = sym (waits_from p w (slice_get (map hand_by p.hands.items) w
 -- ---- an event of a worker who holds this
 
 module _ (p : Progress) (w : ℕ) (hand : WorkerStateByNumber) (there : w < length p.hands.items) (is : hand ≡ get_or p.hands.items w hand) where
-  -- the hands, where this worker's becomes that one
+  -- the worker states, where this worker's state is replaced by that one
   abbrev pub hands_with : WorkerStateByNumber → List WorkerStateByNumber
   hands_with new = set p.hands.items w new
 
   held : slice_get (map hand_by p.hands.items) w ≡ Some (hand_by hand)
   held = slice_get-map hand_by p.hands.items w ∙ ap (λ o. option_map hand_by o) (slice_get-get_or p.hands.items w hand there) ∙ ap (λ h. Some (hand_by h)) (sym is)
 
-  -- the event, if the hand is known
+  -- the event, if the state of its worker is known
   by_hand : (event : Event) → worker_of event ≡ w → after (state_by p) event ≡ event_of (λ u. u) (state_by p) (Some (hand_by hand)) event
   by_hand event e =
       ap (λ n. event_of (λ u. u) (state_by p) (slice_get (map hand_by p.hands.items) n) event) e ∙ ap (λ h. event_of (λ u. u) (state_by p) h event) held
 
-  -- nothing changes, with this hand put back
+  -- nothing changes if the same worker state is stored again
   put_back : (event : Event) → worker_of event ≡ w → event_of (λ u. u) (state_by p) (Some (hand_by hand)) event ≡ state_by p
       → state_of p.board.items (hands_with hand) p.home.items ≡ after (state_by p) event
   put_back event e same =
@@ -137,7 +137,7 @@ module _ (p : Progress) (w : ℕ) (hand : WorkerStateByNumber) (there : w < leng
       (map-set hand_by p.hands.items w new ∙ ap (λ fates. set (map hand_by p.hands.items) w (record { unworked = jobs_in new.unworked; worked = fates })) fates)
       ∙ sym (works_by mark _ (jobs_in_next hand.unworked h))
 
-  -- ---- it brings home
+  -- ---- its results are collected
 
   pub brings_not : hand.unworked.start < hand.unworked.end → state_of p.board.items (hands_with hand) p.home.items ≡ after (state_by p) (Home w)
   brings_not h = put_back (Home w) refl

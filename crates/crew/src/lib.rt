@@ -1,6 +1,6 @@
 //! The interface of a kind of work: a job is turned into an output, or is returned unchanged if allocation fails.
-//! Rounds of work, in one thread or in several, need only this contract. Other crates name items by this root, and laws
-//! by the public module `laws`.
+//! Rounds of work, in one thread or in several, need only this contract. Other crates import items from this root, and
+//! laws from the public module `laws`.
 #![tactic(auto)]
 
 ghost use Rattle.std.specs.Prelude.{◌≡◌};

@@ -65,7 +65,7 @@ module _ {V : Type 0} where
   least_with_change m k None = let h = least_without m k in omega (arith, h)
   least_with_change m k (Some v) = least_with_pair m k v
 
-  -- a run adds as many as it names at most
+  -- a run adds at most as many entries as it has keys
   pub least_with_run : (m : List (List ℕ × V)) (run : List (List ℕ × Option V)) → length (with_run m run) ≤ length m + length run
   least_with_run m [] = omega arith
   least_with_run m (c ∷ cs) =

@@ -1,5 +1,5 @@
--- Chains may cross threads as their cells and their allocator may. It is said here once: a search that goes down through all that a
--- chain holds runs out of steps.
+-- Chains may cross threads if their cells and their allocator may. This is stated here once, because the prover runs out of steps if it searches
+-- through all parts of a chain.
 use denote.RattleType.{RattleType}
 use denote.Param.Send.{IsSend, IsSync, Frees}
 use Rattle.std.specs.declared.alloc.Allocator.{Ghosts}

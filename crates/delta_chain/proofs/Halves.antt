@@ -89,7 +89,7 @@ module _ {V : Type 0} where
   pub joined_changes-alone : (runs others : List (List (List ℕ × Option V))) (run : List (List ℕ × Option V)) → runs ≡ others ++ run ∷ [] → nat_eq (length others) 0 ≡ true → IsRising run → run ≡ joined_changes (reverse runs)
   joined_changes-alone runs others run h e r = rw (alone runs others run h e) (joined_changes-one run r)
 
--- what holds anyhow holds of what is answered
+-- what always holds also holds of the result
 pub anyhow : {T E : Type 0} (X : Type 0) (r : Result T E) → X → IfOk r (λ _. X)
 anyhow X (Ok v) x = x
 anyhow X (Err e) x = tt

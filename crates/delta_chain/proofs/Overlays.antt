@@ -37,7 +37,7 @@ module _ {V : Type 0} where
 
   -- ---- what they say at a key
 
-  -- what a newer run says of a key is said in place of what was
+  -- the change of a key in a newer run replaces the older one
   said_by_one : (b : Bool) (o : Option V) (here : Option (Option (Option V))) (rest : Option (Option V)) (older : Option (Option V)) (below : Option V)
       → change_or (change_or here older) below ≡ change_or rest (change_or older below)
       → change_or (change_or (cond b (Some (Some o)) here) older) below ≡ change_or (cond b (Some o) rest) (change_or older below)

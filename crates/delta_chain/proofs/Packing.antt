@@ -29,7 +29,7 @@ ends-push : (from : ℕ) (ends : List ℕ) (last next : ℕ) → AreEnds from en
 ends-push from [] last next h l = (omega (arith, h), refl)
 ends-push from (end ∷ ends) last next h l = (h.0, ends-push end ends last next h.1 l)
 
--- the place before another among ends, with the place from which they lead
+-- the end before a place is the start at that place
 start_before : (from : ℕ) (ends : List ℕ) (at start : ℕ) → (at ≡ 0 → ⊥) → start ≡ get_or ends (at - 1) start → start ≡ get_or (from ∷ ends) at start
 start_before from ends zero start n h = absurd (n refl)
 start_before from ends (suc at) start n h = simp unary_clauses at h

@@ -46,7 +46,7 @@ module _ {T : Type 0} where
   alone_at e zero l = refl
   alone_at e (suc at) l = absurd (omega arith)
 
-  -- one more pair appended to others, from what stood from a place on
+  -- after the pair at a place is appended to the pairs so far, these and the pairs after the place are still all pairs
   pub push_pair : (out es all : List (List ℕ × T)) (at : ℕ) (k : List ℕ) (v : T) → slice_get (keys_of es) at ≡ Some k → slice_get (values_of es) at ≡ Some v → out ++ drop at es ≡ all → (out ++ (k, v) ∷ []) ++ drop (at + 1) es ≡ all
   push_pair out es all at k v h i t =
       rw add-one (append_assoc out ((k, v) ∷ []) (drop (suc at) es) ∙ ap (λ (x : List (List ℕ × T)). out ++ x) (sym (drop_pair es at k v h i)) ∙ t)

@@ -1,4 +1,4 @@
--- One step of applying a run to the pairs below it.
+-- The merge of a run with the pairs below it, and of the runs of a page with each other.
 use Rattle.std.specs.Prelude.{List, [], ◌∷◌, map, Option, Some, None}
 use Rattle.std.specs.declared.cmp.Ordering.{Ordering}
 use Rattle.std.specs.declared.cmp.Ordering.TheVariants.{Greater}

@@ -50,7 +50,7 @@ pub struct EntryBounds {
     pub most: usize,
 }
 
-/// A borrowed part of a page: its base and the runs from some run down to the oldest. Contracts see it as a page.
+/// A borrowed part of a page: its base and some consecutive runs. Contracts see it as a page.
 #[derive(Drop)]
 pub struct ChainRef<'a, V, A: Allocator> {
     // Oldest first.
@@ -243,8 +243,8 @@ impl<V, A: Allocator + Copy> Chain<V, A> {
         }
     }
 
-    /// Borrows the page without the newest runs whose fingerprints show that they cannot contain `key`. It holds the
-    /// same cell at `key`.
+    /// Borrows the page without the newest runs whose fingerprints show that they cannot contain `key`. The result
+    /// holds the same cell at `key`.
     pub fn runs_for(&self, key: &[u8]) -> ChainRef<'_, V, A>
         ensures { holds result key.now ≡ holds self.now key.now }
     {

@@ -1,7 +1,7 @@
 //! The state of a page: runs of changes in front of a base. A page is not changed in place: a change is a run that is
 //! prepended (the Bw-tree's delta), until the page is replaced as a whole. A replaced page may still lie in memory as
-//! runs, because its base can be merged later. Other crates name items by this root, and laws by the public module
-//! `laws`.
+//! runs, because its base can be merged later. Other crates import items from this root, and laws from the public
+//! module `laws`.
 #![tactic(auto)]
 
 mod base;

@@ -10,8 +10,9 @@ use std::alloc::Allocator;
 // Represents all run numbers that do not fit into a byte.
 const ALL: u8 = 255;
 
-/// For each fingerprint, the number of the newest run (popped runs included) that contains a key with it, or 0 if there
-/// is none; the oldest run has number 1. A lookup skips all newer runs without reading them.
+/// For each fingerprint, the number of the run that was prepended last with a key of this fingerprint (even if it was
+/// popped since), or 0 if there was none; the oldest run has number 1. A lookup skips all newer runs without reading
+/// them.
 #[derive(Drop)]
 pub(crate) struct NewestRuns {
     numbers: [u8; 64],

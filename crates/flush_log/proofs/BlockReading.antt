@@ -25,7 +25,7 @@ no_block bytes other = of (bytes_eq (settings_block (settings_in bytes)) bytes) 
     of true same = absurd (other (sym (ap length ((bytes_eq-Decides (settings_block (settings_in bytes)) bytes).0 same))))
     of false same = refl
 
--- of the settings in them, whether they spell these and these pass
+-- whether the bytes encode the settings that are decoded from them, and whether these settings pass the check
 pub block_read : (bytes : Bytes) (s : Settings) (same good : Bool) → s ≡ settings_in bytes → same ≡ bytes_eq (settings_block s) bytes → good ≡ is_none (first_bad_field s)
     → chosen s (same && good) ≡ read_settings bytes
 block_read bytes s same good is e g =

@@ -46,6 +46,6 @@ padding_with_a_7 = refl
 zeros_before_the_tail : log_between (in_version S One) (overlay file 822 (0 ∷ 0 ∷ [])) 0 312 ≡ Err (BadFrame 1 54)
 zeros_before_the_tail = refl
 
--- of two faults the first one is answered
+-- of two faults the first one is returned
 first_of_two : log_between (in_version S One) (overlay (overlay file 783 (2 ∷ [])) 528 (9 ∷ [])) 0 310 ≡ Err (BadFrame 0 16)
 first_of_two = refl

@@ -1,5 +1,4 @@
--- A disk with a record of its calls: a crash leaves of it what these calls may leave, and each further call leaves what `Leaves`
--- asks for.
+-- A disk with a record of its calls: a crash leaves of it what these calls may leave, and each further call leaves what `Leaves` requires.
 use Rattle.std.proofs.Common.{◌≡◌, ◌⊎◌, inl, inr, ⊎_elim, ℕ, ◌+◌, ◌≤◌, List, [], ◌∷◌, ◌++◌, length, take, refl, sym, subst, ◌∙◌, arith, length-append, take_all}
 use Rattle.std.proofs.lemmas.Bool.{cases_lt}
 use Rattle.std.proofs.lemmas.List.{take-append-le}
@@ -120,7 +119,7 @@ module _ (file : List ℕ) (calls : List Call) (fit : AreCalls (length file) cal
           (λ is. is ∙ seen_after-append calls (Sync ∷ []) file)
           (λ may. leave-append calls (Sync ∷ []) file (λ d. d ≡ file) c may) now
 
-  -- a sync that succeeds settles
+  -- after a successful sync the disk is synced
   pub view-is_synced : Only (seen_after (calls ++ Sync ∷ []) file) (LeftNow file (calls ++ Sync ∷ []))
   view-is_synced c now = ⊎_elim
       (λ is. is)

@@ -51,7 +51,7 @@ pages_of_row_4 = leaf 0 "" [] base_0 ∷ leaf 1 "c" [] base_1 ∷ index 2 "" [] 
 abbrev pub text_of_row_4 : List Frame
 text_of_row_4 = frame 0 (FullLeaf Whole [] base_0) ∷ frame 1 (FullLeaf Whole (codes "c") base_1) ∷ frame 2 (FullIndex Whole [] base_2) ∷ []
 
--- the same with keys that share beginnings
+-- the same with prefix-compressed keys
 abbrev pub shared_text_of_row_4 : List Frame
 shared_text_of_row_4 = frame 0 (FullLeaf PrefixCompressed [] base_0) ∷ frame 1 (FullLeaf PrefixCompressed (codes "c") base_1) ∷ frame 2 (FullIndex PrefixCompressed [] base_2) ∷ []
 

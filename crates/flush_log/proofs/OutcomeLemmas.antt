@@ -138,7 +138,7 @@ pub within_more : (s : Settings) (m n : ℕ) (rs : List Span) → m ≤ n → Ar
 within_more s m n rs more fit = all_weaker (λ r. place_of_span s r + length r.bytes ≤ m) (λ r. place_of_span s r + length r.bytes ≤ n) (λ r h. omega arith) rs fit
 
 module _ (g : Format) (file : List ℕ) (t : Slot) (text : List Frame) (h : HasRoom g file t text) where
-  -- what the slot says, it may say
+  -- the contents of the slot are well formed
   pub slot_good : IsSlot g.settings t.sequence t
   slot_good = slot-is g.settings t.sequence t (slot-stands g.settings t.sequence t file (store_slot-read g.settings file t h.slot)).good
 

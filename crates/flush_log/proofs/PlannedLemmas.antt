@@ -47,14 +47,14 @@ module _ (s : Settings) (t : Slot) (text : List Frame) (good : first_bad_field s
         room = fits;
       }
 
-  -- by the slot as the code has it
+  -- by the slot in the form of the code
   pub planned-by : (u : Slot) (images : List (List (List ℕ))) (tail room : ℕ) → u ≡ t → AreImages (format_of s t) text images → (let answer : Answer = Ok tail in answer ≡ next_tail s t text) → s.seg_size ≤ room
       → IsPlanned s t text (record { images = images; tail = u.tail; slot = record { sequence = u.sequence + 1; head = u.head; tail = tail; root = u.root; height = u.height; version = u.version }; room = room })
   planned-by u images tail room same are admits fits =
       subst (λ (v : Slot). IsPlanned s t text (record { images = images; tail = v.tail; slot = record { sequence = v.sequence + 1; head = v.head; tail = tail; root = v.root; height = v.height; version = v.version }; room = room })) (sym same)
       (planned_of images tail room are admits fits)
 
--- ---- what a plan is good for
+-- ---- the consequences of a plan
 
 module _ (s : Settings) (t : Slot) (text : List Frame) (p : CommitPlan) (is : IsPlanned s t text p) where
   pub planned-fits : first_bad_field s ≡ None → FitSegments s (frames_in p.images)

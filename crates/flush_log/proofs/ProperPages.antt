@@ -19,7 +19,7 @@ use Rattle.mapping.proofs.PidLemmas.{among_either, among_either_by}
 use Rattle.mapping.proofs.TableLemmas.{holds_where_found}
 use Rattle.mapping.proofs.TileLemmas.{next_low-parents}
 
--- what a frame asks of a page
+-- what a frame requires of a page
 pub record IsGood {V : Type 0} (s : Settings) (IsShort : V → Type 0) (p : Page V) : Type 0 where
   pub low : length p.low ≤ s.max_key
   pub rising : IsInOrder p.layers

@@ -162,7 +162,7 @@ gate_is_first place disk =
 pub gate_stands : (n : ℕ) (t : Slot) (disk : List ℕ) → bytes_of_slot n disk ≡ slot_bytes t → is_open n disk ≡ true
 gate_stands n t disk stands = ap (λ (b : ℕ). b == 1) (sym (gate_is_first (slot_place n) disk) ∙ ap (λ (bs : List ℕ). get_or bs 0 0) stands)
 
--- what an open slot says, and what a closed one does
+-- the contents of an open slot, and of a closed one
 pub opened : (s : Settings) (n : ℕ) (disk : List ℕ) → is_open n disk ≡ true → read_slot s n disk ≡ read_open s n (bytes_of_slot n disk)
 opened s n disk is = let none : Said = Ok None in ap (λ (b : Bool). if b then read_open s n (bytes_of_slot n disk) else none) is
 
@@ -215,7 +215,7 @@ newer-gave (Ok (Some x)) (Ok (Some y)) t h = of (nat_lt x.sequence y.sequence) h
     of true h = let is : y ≡ t = cc in inr (ap said is)
     of false h = let is : x ≡ t = cc in inl (ap said is)
 
--- it is read of the slot of its own number
+-- it is read from the slot of its own number
 pub store_slot-read : (s : Settings) (disk : List ℕ) (t : Slot) → store_slot s disk ≡ Ok t → read_slot s t.sequence disk ≡ said t
 store_slot-read s disk t h = ⊎_elim (of 0) (of 1) (newer-gave (read_slot s 0 disk) (read_slot s 1 disk) t h)
   where

@@ -45,7 +45,7 @@ gate_read n disk bytes h = ap (λ (b : ℕ). b == 1) (sym (gate_is_first (slot_p
 pub reads_none : (s : Settings) (n : ℕ) (disk bytes : Bytes) → IsOfSlot n disk bytes → get_or bytes 0 0 ≢ 1 → (let none : Said = Ok None in none ≡ read_slot s n disk)
 reads_none s n disk bytes h shut = sym (closed s n disk (gate_read n disk bytes h ∙ ne_eqb (get_or bytes 0 0) 1 shut))
 
--- it is open, and spells this slot or doesn't
+-- it is open, and encodes this slot or does not
 pub reads_open : (s : Settings) (n : ℕ) (disk bytes : Bytes) (t : Slot) (same good : Bool) → IsOfSlot n disk bytes → get_or bytes 0 0 ≡ 1 → t ≡ slot_in bytes
     → same ≡ bytes_eq (slot_bytes t) bytes → good ≡ is_slot s n t → (let no : Said = Err NoSlot in (if same && good then said t else no) ≡ read_slot s n disk)
 reads_open s n disk bytes t same good h gate is e g =

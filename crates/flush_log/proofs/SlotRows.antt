@@ -78,7 +78,7 @@ first_byte_of_version = refl
 not_upgraded : store_slot S (overlay upgraded 192 (hex "00")) ≡ Ok slot_of_row_7
 not_upgraded = refl
 
--- row 21: the tail 51 may be; with both gates at 0 there is no slot
+-- row 21: the tail 51 is well formed; with both gates at 0 there is no slot
 tail_of_51 : store_slot S (overlay (with_slot (record slot_of_row_7 { tail = 52; root = 0; height = 1 }) (new_bytes S)) 159 (hex "33"))
     ≡ Ok (record { sequence = 2; head = 0; tail = 51; root = 0; height = 1; version = One })
 tail_of_51 = refl
@@ -98,7 +98,7 @@ closed = refl
 
 -- ---- which slots are well formed
 
--- slot 0 may say this, with this head and tail
+-- slot 0 with this head and tail is well formed
 abbrev may_end : ℕ → ℕ → Bool
 may_end head tail = is_slot S 0 (record { sequence = 2; head = head; tail = tail; root = 0; height = 1; version = One })
 

@@ -89,7 +89,7 @@ module _ (t : Slot) (gate : ℕ) (bytes : List ℕ) (at : gate ≡ slot_place t.
       ∙ ap (λ (bs : List ℕ). overlay (overlay file (slot_place t.sequence + 1) (slot_body t)) (slot_place t.sequence) (take 1 bs)) is
       ∙ opened t file long
 
-  -- on a settled disk
+  -- on a synced disk
   module _ (old : View) (is_synced : IsSynced old) (long : 512 ≤ length old.seen) (shut : is_open t.sequence old.seen ≡ false) where
     abbrev Left : List ℕ → Type 0
     Left c = LeavesGateClosed t.sequence old.seen c ⊎ (c ≡ overlay old.seen (slot_place t.sequence) (slot_bytes t))

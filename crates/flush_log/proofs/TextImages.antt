@@ -86,7 +86,7 @@ module _ (s : Settings) where
   few_by good (Some (Leaf p)) f = let most = (checked s good).chain in let depth = (f (Leaf p) refl).fits.depth in omega arith
   few_by good (Some (Index p)) f = let most = (checked s good).chain in let depth = (f (Index p) refl).fits.depth in omega arith
 
--- a log of a version may have what a store of it writes
+-- a log of a version may contain what a store of that version writes
 known : (version : Version) → is_known version (encoding_of version) ≡ true
 known One = refl
 known Two = refl
@@ -104,7 +104,7 @@ all_so : {X : Type 0} (xs : List X) → AllByRecursion (λ x. true ≡ true) xs
 all_so [] = tt
 all_so (x ∷ xs) = (refl, all_so xs)
 
--- what is lacking of a page is so readable
+-- the missing part of a page is readable in this way
 module _ (version : Version) where
   abbrev Readable : Content → Type 0
   Readable c = is_readable version c ≡ true

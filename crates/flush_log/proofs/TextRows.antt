@@ -69,7 +69,7 @@ row_14 = refl
 row_15 : flush_frames One (tree (leaf 0 "" [] (pair "a" "0123456789abcdef" ∷ []) ∷ []) 0 1 ((0, Old) ∷ [])) ≡ frame 0 (FullLeaf Whole [] (pair "a" "0123456789abcdef" ∷ [])) ∷ []
 row_15 = refl
 
--- ---- keys that share beginnings
+-- ---- prefix-compressed keys
 
 -- a flush of row 4's pages where the log is of version 2; and the upgrade of their log after it has them all
 row_4_shared : flush_frames Two (tree pages_of_row_4 2 2 ((0, Old) ∷ [])) ≡ shared_text_of_row_4

@@ -19,7 +19,7 @@ counted_failed old new is = elim (cases_lt (old + 1) (2 ^ 64 - 1)) [
   | inr most ↦ inr (omega (arith, is, most))
 ]
 
--- a call that failed is counted, and owes nothing that an Ok promises
+-- a call that failed is counted, and need not satisfy what an Ok promises
 pub counts_failed : {X E : Type 0} (result : Result X E) (old new : ℕ) → IsErr result → new ≡ min (old + 1) (2 ^ 64 - 1) → CountsFailure result old new
 counts_failed (Ok x) old new is h = absurd (false≢true is)
 counts_failed (Err e) old new is h = h
@@ -135,7 +135,7 @@ during-first (Sync ∷ xs) ys seen might c (suc k, h) = let more = during-first 
 pub during_more : (xs ys : List Call) (file c : List ℕ) → LeftDuring xs file c → LeftDuring (xs ++ ys) file c
 during_more xs ys file c h = during-first xs ys file (λ d. d ≡ file) c h
 
--- from a settled disk these calls were made, and each answered Ok
+-- from a synced disk these calls were made, and each returned Ok
 pub record AreMade (old new : View) (calls : List Call) : Type 0 where
   pub seen : new.seen ≡ seen_after calls old.seen
   pub now : (c : List ℕ) → new.may_leave c → MayLeave calls old.seen (λ d. d ≡ old.seen) c
@@ -153,7 +153,7 @@ none_made v law is_synced = record {
 }
 
 module _ (old mid new : View) (calls : List Call) (made : AreMade old mid calls) where
-  -- a write, whether it answered Ok or not
+  -- a write, whether it returned Ok or not
   pub write_leaves : (at : ℕ) (bytes : List ℕ) → Leaves mid new (Torn at (length bytes)) → LeavesOnly old new (LeftDuring (calls ++ Write at bytes ∷ []) old.seen)
   write_leaves at bytes wrote =
       only_then old mid new (LeftDuring (calls ++ Write at bytes ∷ []) old.seen)
@@ -171,7 +171,7 @@ module _ (old mid new : View) (calls : List Call) (made : AreMade old mid calls)
     since = write_leaves at bytes wrote;
   }
 
-  -- a sync, whether it answered Ok or not
+  -- a sync, whether it returned Ok or not
   pub sync_leaves : Leaves mid new (λ d c. c ≡ d) → LeavesOnly old new (LeftDuring calls old.seen)
   sync_leaves synced =
       only_then old mid new (LeftDuring calls old.seen) made.since

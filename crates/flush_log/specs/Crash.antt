@@ -26,8 +26,8 @@ all_torn fill [] file = file
 all_torn fill (Write at bytes ∷ calls) file = all_torn fill calls (torn_by fill at bytes file)
 all_torn fill (Sync ∷ calls) file = all_torn fill calls file
 
--- for a disk with the synced bytes `file` that then got these calls, `is_synced` is the outcome after the first `since` of them; the outcome after all
--- calls is `is_synced` with the later writes torn
+-- for a disk with the synced bytes `file` that then got these calls, `is_synced` is the outcome after the first `since` of them; the outcome after
+-- all calls is `is_synced` with the later writes torn
 pub record IsSyncedAt (file : Bytes) (calls : List Call) (since : ℕ) (is_synced : Bytes) : Type 0 where
   pub within : since ≤ length calls
   pub long : length is_synced ≡ length file

@@ -82,7 +82,7 @@ commit_frames text t = flat_map (pid_frames text t) (pids_to_write t)
 abbrev pub flush_frames : Version → Tree → List Frame
 flush_frames version t = commit_frames (Flush version) t
 
--- the frames of an upgrade: those of a flush of version 2, as if every page in use were `Old`
+-- the frames of an upgrade: those of a flush of version 2, as if every page in the log were outdated
 abbrev pub upgrade_frames : Tree → List Frame
 upgrade_frames t = commit_frames Upgrade t
 

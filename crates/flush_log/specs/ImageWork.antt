@@ -47,7 +47,7 @@ held_text h = frames_of h.pid (lacking h.encoding h.page h.logged)
 abbrev pub image_made : ImageHeld → List Bytes
 image_made h = map (λ f. bytes_of f) (held_text h)
 
--- the number of the page's runs is far below the greatest machine number
+-- the page has fewer than 2^31 runs, so that counts of runs do not overflow
 abbrev pub HasFewRuns : Option PageOfKind → Type 0
 HasFewRuns None = ⊤
 HasFewRuns (Some p) = page_depth p < 2 ^ 31

@@ -1,4 +1,4 @@
--- The frames of a commit in the code's form: images, each the encoded frames of one page. And how such frames move the end of a log.
+-- The frames of a commit in the code's form: images, each of which is a list of encoded frames. And how such frames move the end of a log.
 use Rattle.std.specs.Prelude.{◌≡◌, ◌⊎◌, ℕ, suc, ◌+◌, ◌*◌, ◌/◌, ◌%◌, ◌≤◌, Bool, nat_le, nat_lt, if◌then◌else◌, List, [], ◌∷◌, ◌++◌, length, map, slice_range, Option, Some, None, Result, Ok, Err}
 use Rattle.std.specs.List.{AllByRecursion}
 use Rattle.keys.specs.Bytes.{Bytes}

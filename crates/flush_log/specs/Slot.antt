@@ -38,7 +38,7 @@ abbrev pub version_number : Version → ℕ
 version_number One = 0
 version_number Two = 2
 
--- the version with this number; any other number decodes to the first version, which does not encode to it
+-- the version that is encoded as this number; a number other than 0 and 2 is decoded as the first version, which is not encoded as that number
 abbrev pub version_in : ℕ → Version
 version_in n = if n == 2 then Two else One
 

@@ -167,7 +167,7 @@ fn write_hidden<D: Disk>(
 /// writes and syncs the frames, writes and syncs the slot's other bytes, and opens its gate. `is_open` is whether the
 /// gate is open; `buffer` collects the bytes of a segment. After a failed call no further call is made.
 ///
-/// Flushes and cleans use this function. A clean may have no frames: then only the slot is written.
+/// Flushes, upgrades and cleans use this function. A clean may have no frames: then only the slot is written.
 ///
 /// If the disk was synced, a crash at any moment since the beginning of the call leaves either the old state or the
 /// committed one. Frames for which there is room lie within the disk.

@@ -2,8 +2,8 @@
 //! commit, which adds frames and makes a new slot the store's. `specs/` has the definitions.
 //!
 //! Laws: encoded blocks and slots are decoded; written frames are found by the next reading; a crash during a commit
-//! leaves the old state or the committed one. Other crates name items by this root, and laws by the public modules
-//! `commit_laws`, `laws`, `record_laws` and `slot_laws`.
+//! leaves the old state or the committed one. Other crates import items from this root, and laws from the public
+//! modules `commit_laws`, `laws`, `record_laws` and `slot_laws`.
 #![tactic(auto)]
 
 mod commit;

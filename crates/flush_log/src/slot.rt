@@ -73,7 +73,8 @@ fn version_number(version: Version) -> u32
     }
 }
 
-// The version with this number. Any other number decodes to the first version, which does not encode to it.
+// The version that is encoded as `number`: 0 or 2. Any other number is decoded as the first version, which is not
+// encoded as that number.
 fn version_in(number: u32) -> Version
     ensures { result ≡ version_in number }
 {

@@ -96,7 +96,7 @@ module _ {V : Type 0} (cell : Codec V) where
       let others = length-append ((both counted cell).encode e) (encode_base Whole cell e.0 es) in
       omega arith
 
-  -- keys that share beginnings take no more than whole ones
+  -- prefix-compressed keys take no more than whole ones
   pub base-shorter : (encoding : KeyEncoding) (low : List ℕ) (es : List (List ℕ × V)) → length (encode_base encoding cell low es) ≤ length (encode_base Whole cell low es)
   base-shorter Whole low es = omega arith
   base-shorter PrefixCompressed low es = shared_shorter low es

@@ -1,4 +1,4 @@
--- Byte row 11: a leaf that was replaced by a 3.
+-- Byte row 11: a leaf that was replaced by a base with the pair a 3.
 use Rattle.std.specs.Prelude.{[], ◌∷◌, codes}
 use Rattle.std.proofs.Common.{refl}
 use Rattle.frame_codec.specs.declared.format.KeyEncoding.TheVariants.{Whole}

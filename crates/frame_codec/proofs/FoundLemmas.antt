@@ -98,7 +98,7 @@ frame-left g bs f rest bytes h =
     let following : drop (length bs - length rest) bs ≡ rest = ap (λ (n : ℕ). drop n bs) size ∙ ap (drop (length (bytes_of f))) stands ∙ drop-append_seam (bytes_of f) rest in
     record { found = h ∙ ap (gave f) (sym following); size = size; within = omega arith }
 
--- the same from what the code knows when it answers
+-- the same from what the code knows when it returns
 pub frame-answered : (g : Format) (bs : List ℕ) (kind len pid : ℕ) (body : List ℕ) (bytes : AreBytes bs) (head : header.read bs ≡ Some (((kind, len), pid), body))
     (f : Frame) (rest : List ℕ) → read_allowed g bs kind len pid body bytes head ≡ Some (f, rest) → len ≡ 8 + (length body - length rest) → is_pid pid ≡ true
     → IsReadOf g bs f (length bs - length rest) × (length rest ≤ length bs)

@@ -83,7 +83,7 @@ flagged-local c lc (zero ∷ bs) v rest more h = done-local None bs v rest more 
 flagged-local c lc (suc zero ∷ bs) v rest more h = as-local (λ v. Some v) c.read lc bs v rest more h
 flagged-local c lc (suc (suc n) ∷ bs) v rest more h = absurd (nothing_read _ h)
 
--- ---- keys that share beginnings
+-- ---- prefix-compressed keys
 
 counted_short-local : IsLocal counted_short.read
 counted_short-local = on-local (number 1).read read_bytes (number-local 1) bytes-local

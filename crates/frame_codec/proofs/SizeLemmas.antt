@@ -85,7 +85,7 @@ content-size Free = refl
 pub frame-size : (f : Frame) → length (bytes_of f) ≡ size_of f.content
 frame-size f = let content = content-size f.content in omega arith
 
--- a base whose keys share beginnings takes no more than one whose keys are whole
+-- a base whose keys are prefix-compressed takes no more than one whose keys are whole
 pub leaf-shorter : (encoding : KeyEncoding) (low : List ℕ) (base : List (List ℕ × List ℕ)) → size_of (FullLeaf encoding low base) ≤ size_of (FullLeaf Whole low base)
 leaf-shorter encoding low base =
     let all = base-size value_cell (λ e. pair_header_size + length e.0 + length e.1) value-entry encoding low base in

@@ -95,7 +95,7 @@ module _ {X : Type 0} (s : Settings) (short : X → Bool) (encoding : KeyEncodin
     whole-rises at built now up k v following more h =
         not_false (goes_last k built) (λ falls. nothing_read (es, end) (sym (read-falls s short encoding cell low count start at built now up k v following more h falls) ∙ whole))
 
--- ---- entries whose keys share beginnings
+-- ---- entries whose keys are prefix-compressed
 
 -- the key before the entry at this place, if there is one
 abbrev pub last_of : ℕ → List ℕ → Option (List ℕ)

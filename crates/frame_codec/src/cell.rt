@@ -34,8 +34,8 @@ pub(crate) trait FrameCell: FrameItem + Drop {
     ghost use Rattle.std.specs.Prelude.{Bool, true};
     ghost use Rattle.keys.specs.declared.settings.Settings as limits;
 
-    // The two halves of `is_short`: the part that is known of a cell without reading it, and the part that reading it
-    // shows.
+    // The two parts of `is_short`: the size of the cell, which is known from its page, and whether a page id has 64
+    // bits, which `append` shows.
     ghost has_size: { limits.Settings → Self → Bool };
 
     ghost is_word: { Self → Bool };
@@ -64,7 +64,7 @@ pub(crate) trait FrameCell: FrameItem + Drop {
         ensures bytes { IsAppended out.old out.new (Self.codec.encode self.now) }
         ensures word { is_word self.now ≡ true };
 
-    // Together, the two halves are the requirement for frames.
+    // Together, the two parts are the requirement for frames.
     ghost is_short_by_both: { (s : limits.Settings) (cell : Self) → has_size s cell ≡ true →
         is_word cell ≡ true → Self.is_short s cell ≡ true };
 }

@@ -3,8 +3,8 @@
 //! and runs.
 //!
 //! Laws: a frame is decoded from its encoding; no encoding is a prefix of another; a decoded frame is encoded in the
-//! bytes; the size of a frame; the base and the runs of a page are frames. The same for cells. Other crates name items
-//! by this root, and laws by the public module `laws`.
+//! bytes; the size of a frame; the base and the runs of a page are frames. The same for cells. Other crates import
+//! items from this root, and laws from the public module `laws`.
 #![tactic(auto)]
 
 mod cell;

@@ -23,7 +23,7 @@ abbrev pub next_key : {X : Type 0} → List (List ℕ × X) → Option (List ℕ
 next_key [] end = end
 next_key (e ∷ es) end = Some e.0
 
--- the place that an entry names, where its range has this end
+-- the place of an entry, if its range has this end
 abbrev pub place_of : List ℕ × ℕ → Option (List ℕ) → Place
 place_of e end = record { pid = e.1; low = e.0; end = end }
 
@@ -49,7 +49,7 @@ lows-children (e ∷ d ∷ es) end = ap (λ (x : List (List ℕ)). e.0 ∷ x) (l
 
 -- ---- whether a key is within a range
 
--- a key is within where it isn't below the low key, and is below the end
+-- a key is within a range if it isn't below the low key, and is below the end
 pub within : (low : List ℕ) (end : Option (List ℕ)) (k : List ℕ) → is_below k low ≡ false → is_before end k ≡ true → is_within low end k ≡ true
 within low end k h b = rw (h, b) refl
 

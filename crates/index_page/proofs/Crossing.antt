@@ -1,5 +1,5 @@
--- Pages may cross threads as their allocator may. It is said here once, part by part: a search that goes down through all that a page holds runs out of
--- steps.
+-- Pages may cross threads if their allocator may. This is stated here once, part by part, because the prover runs out of steps if it searches through
+-- all parts of a page.
 use denote.RattleType.{RattleType}
 use denote.Struct.Declared.{shape}
 use denote.Enum.Declared as variants

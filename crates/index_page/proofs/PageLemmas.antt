@@ -58,7 +58,7 @@ module _ {V : Type 0} (P : List ℕ × Option V → Type 0) where
       let b = all_apart P run (changes_over runs base) a in
       all-with_run (entries_under runs base) run (all_entries_under runs base b.1) b.0
 
-  -- what holds of all that a page says holds of its entries
+  -- what holds of all changes and pairs of a page holds of its entries
   pub all_entries : (p : Page V) → AllByRecursion P (said p) → AllPairs (entries p)
   all_entries p a = all_entries_under p.layers.runs p.layers.base a
 
@@ -66,11 +66,11 @@ module _ {V : Type 0} (P : List ℕ → Type 0) where
   pub all_keys-with_run : (m : List (List ℕ × V)) (run : List (List ℕ × Option V)) → AllByRecursion P (keys_of m) → AllByRecursion P (keys_of run) → AllByRecursion P (keys_of (with_run m run))
   all_keys-with_run m run a b = all_keys P (with_run m run) (all-with_run (λ (c : List ℕ × Option V). P c.0) m run (all_keyed P m a) (all_keyed P run b))
 
-  -- what holds of all keys that a page names holds of its entries' keys
+  -- what holds of all keys of a page holds of its entries' keys
   pub all_keys_entries : (p : Page V) → AllByRecursion P (named p) → AllByRecursion P (keys_of (entries p))
   all_keys_entries p a = all_keys P (entries p) (all_entries (λ (c : List ℕ × Option V). P c.0) p (all_keyed P (said p) a))
 
-  -- what holds of the keys of a base is what holds of what the base says
+  -- what holds of the keys of a base holds of the keys of its pairs taken as changes
   pub all_keys-as_changes : (es : List (List ℕ × V)) → AllByRecursion P (keys_of es) → AllByRecursion P (keys_of (as_changes es))
   all_keys-as_changes [] a = tt
   all_keys-as_changes (e ∷ es) a = (a.0, all_keys-as_changes es a.1)

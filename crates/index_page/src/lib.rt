@@ -3,7 +3,7 @@
 //!
 //! `specs/` defines pages, their children, and the requirements on a page. Laws: the tests by which a page is checked
 //! find exactly the pages that break a requirement; the children's ranges tile the range of their page; a range meets
-//! bounds if they share a key. Other crates name items by this root, and laws by the public module `laws`.
+//! bounds if they share a key. Other crates import items from this root, and laws from the public module `laws`.
 #![tactic(auto)]
 
 mod child_list;

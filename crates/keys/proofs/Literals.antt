@@ -1,4 +1,4 @@
--- What the worked rows are written in: settings, keys, commands. docs/EXAMPLES.md numbers the rows.
+-- Notation for the worked rows: settings, keys, commands. docs/EXAMPLES.md numbers the rows.
 use Rattle.std.specs.Prelude.{ℕ, List, [], ◌∷◌, Some, None}
 use Rattle.keys.specs.declared.command.Command.{Command}
 use Rattle.keys.specs.declared.command.Command.TheVariants.{Get, Put, Del, Scan, Wipe}
@@ -71,7 +71,7 @@ ca = 99 ∷ 97 ∷ []
 
 -- ---- commands
 
--- row 2: a key that comes, changes and goes within one batch
+-- row 2: a key that is put, changed and deleted within one batch
 abbrev pub row_2 : List (Command ℕ)
 row_2 = Get a ∷ Put a (49 ∷ []) ∷ Get a ∷ Put a (50 ∷ []) ∷ Get a ∷ Del a ∷ Get a ∷ []
 
@@ -79,6 +79,6 @@ row_2 = Get a ∷ Put a (49 ∷ []) ∷ Get a ∷ Put a (50 ∷ []) ∷ Get a �
 abbrev pub row_8 : List (Command ℕ)
 row_8 = Scan [] None 10 ∷ Del c ∷ Scan b (Some d) 10 ∷ Put ca (57 ∷ []) ∷ Scan b None 2 ∷ []
 
--- row 16.1: a wipe takes what was there and what was put before it in the batch
+-- row 16.1: a wipe deletes both earlier pairs and pairs that were put before it in the batch
 abbrev pub row_16_1 : List (Command ℕ)
 row_16_1 = Put ca (57 ∷ []) ∷ Wipe b (Some d) ∷ Get ca ∷ Put c (55 ∷ []) ∷ Scan [] None 10 ∷ []

@@ -28,7 +28,7 @@ replies m cs = replies_to m cs
 abbrev left : Pairs → Commands → Pairs
 left m cs = map_after_all m cs
 
--- row 2: a key that comes, changes and goes within one batch
+-- row 2: a key that is put, changed and deleted within one batch
 row_2_replies : replies [] row_2 ≡ Missing ∷ New ∷ Value (49 ∷ []) ∷ Replaced ∷ Value (50 ∷ []) ∷ Deleted ∷ Missing ∷ []
 row_2_replies = refl
 
@@ -70,7 +70,7 @@ row_7_replies = refl
 row_7_map : left [] (Put a (49 ∷ []) ∷ Put a (50 ∷ []) ∷ Put a (51 ∷ []) ∷ []) ≡ (a, 51 ∷ []) ∷ []
 row_7_map = refl
 
--- row 9: all keys go, one comes and goes
+-- row 9: all keys are deleted, one of them is put and deleted again
 abbrev row_9 : Commands
 row_9 = Del a ∷ Del b ∷ Del c ∷ Del d ∷ Del e ∷ Put a (49 ∷ []) ∷ Del a ∷ []
 
@@ -105,7 +105,7 @@ row_16_1_replies = refl
 row_16_1_map : left row_8_pairs row_16_1 ≡ (a, 49 ∷ []) ∷ (c, 55 ∷ []) ∷ (d, 52 ∷ []) ∷ (e, 53 ∷ []) ∷ []
 row_16_1_map = refl
 
--- row 16.2: everything goes, and the second time there is nothing
+-- row 16.2: everything is deleted, and the second time there is nothing
 abbrev one : List ℕ
 one = 49 ∷ []
 
@@ -118,7 +118,7 @@ row_16_2_replies = refl
 row_16_2_map : left seventeen (Wipe [] None ∷ Wipe [] None ∷ []) ≡ []
 row_16_2_map = refl
 
--- the upper bound stays, and so does everything where the range is empty
+-- the upper bound is kept, and so is everything if the range is empty
 wiped_up_to : replies five (Wipe b (Some c) ∷ Wipe d (Some b) ∷ Wipe e (Some e) ∷ Wipe e None ∷ []) ≡ Wiped 1 ∷ Wiped 0 ∷ Wiped 0 ∷ Wiped 1 ∷ []
 wiped_up_to = refl
 

@@ -1,5 +1,5 @@
--- The worked rows on settings, computed by the checker: fan 4, chain 2, keys and values of at most 16 bytes,
--- segments of 256 bytes, four of them; and what is wrong with a fan of 3, or with keys of 64 bytes.
+-- The worked rows on settings, computed by the checker: fan 4, chain 2, keys and values of at most 16 bytes, segments of 256 bytes, four of them; and
+-- the faults of a fan of 3 and of keys of 64 bytes.
 use Rattle.std.specs.Prelude.{◌≡◌, ◌+◌, ◌*◌, None, Some}
 use Rattle.std.proofs.Common.{refl}
 use Rattle.keys.specs.Limits.{longest_frame, first_bad_field}
@@ -20,6 +20,6 @@ keys_of_64 = refl
 too_long_for_a_segment : first_bad_field (record S { max_key = 64 }) ≡ Some SegSize
 too_long_for_a_segment = refl
 
--- the first of several is named
+-- the first of several bad fields is reported
 several : first_bad_field (record S { chain = 17; segments = 2 }) ≡ Some Chain
 several = refl

@@ -144,13 +144,13 @@ after_less (suc k) n m [] (v ∷ vs) h l = after_less k (n * 256) (m * 256 + v) 
 after_less (suc k) n m (u ∷ us) [] h l = after_less k (n * 256 + u) (m * 256) us [] h.1 (omega (arith, h.0))
 after_less (suc k) n m (u ∷ us) (v ∷ vs) h l = after_less k (n * 256 + u) (m * 256 + v) us vs h.1 (omega (arith, h.0))
 
--- nothing after it makes it least
+-- a number with nothing after it is the least that begins with it
 after_least : (k n m : ℕ) (vs : List ℕ) → n ≤ m → word_after k n [] ≤ word_after k m vs
 after_least zero n m vs l = l
 after_least (suc k) n m [] l = after_least k (n * 256) (m * 256) [] (omega arith)
 after_least (suc k) n m (v ∷ vs) l = after_least k (n * 256) (m * 256 + v) vs (omega arith)
 
--- words say no more than the bytes do
+-- a lesser word means lesser bytes
 pub words_tell_less : (k n : ℕ) (us vs : List ℕ) → AreBytes us → AreBytes vs → word_after k n us < word_after k n vs → order us vs ≡ Less
 words_tell_less zero n us vs g h l = absurd (omega arith)
 words_tell_less (suc k) n [] [] g h l = absurd (omega arith)

@@ -8,7 +8,8 @@ use std::alloc::{AllocError, AllocFailed};
 use thiserror::Error;
 
 /// Why a call of the store was refused. It prints as its number, its name and its fields, in decimal, separated by
-/// single spaces. After any fault except `Device` the store is as it was before the call.
+/// single spaces. After any fault except `Device`, a batch, flush, clean or upgrade has changed nothing; calls that
+/// take several such steps may have completed some of them.
 #[derive(Debug, Drop, Error, PartialEq, Eq)]
 pub enum Fault {
     /// This field of the settings is out of range.
@@ -30,11 +31,11 @@ pub enum Fault {
     /// An allocation failed.
     #[error("6 NoMemory")]
     NoMemory,
-    /// An earlier call failed: the store must be opened again from its disk.
+    /// An earlier call failed with `Device`: the store must be opened again from its disk.
     #[error("8 Failed")]
     Failed,
-    /// The disk failed. The pages in memory are as before the call; the write that failed may or may not be on the
-    /// disk.
+    /// A call of the disk failed. The pairs in memory are as before the call; what the call wrote may or may not be on
+    /// the disk.
     #[error("9 Device")]
     Device,
     /// The write would leave no segment free.

@@ -1,6 +1,6 @@
 //! The vocabulary of all layers of the engine: keys, values and page ids, settings, the version of a log, commands and
 //! their replies, and the faults. `specs/` defines the order of keys, the ordered map, and the effect of each command
-//! on it. Other crates name items by this root, and laws by the public module `laws`.
+//! on it. Other crates import items from this root, and laws from the public module `laws`.
 #![tactic(auto)]
 
 mod cell;

@@ -10,7 +10,7 @@ use std::alloc::{AllocError, Allocator};
 use std::marker::Model;
 use std::mem;
 
-// The greatest place, and the greatest number of preceding pieces, that a `EmptyScan` can hold.
+// The greatest place, and the greatest number of preceding pieces, that an `EmptyScan` can hold.
 const MOST: usize = u32::MAX as usize;
 
 /// The answer of a page on which a scan found no rows. Such pieces are stored in eight bytes, because a batch of scans

@@ -107,7 +107,8 @@ impl Settings {
     /// bytes: pages of 64 entries, at most four runs in a leaf, and a log with room for a base and four runs of each
     /// leaf and for one more commit. A log of this size that is full has room again after its segments are cleaned, in
     /// whatever batches the pairs are put again. If the keys only move on, as in a queue, `pairs` must count all pairs
-    /// that are ever put, unless `flush_cleaning`, `compact` or `tidy` removes the leaves that deletes have emptied.
+    /// that are ever put, unless `flush_cleaning`, `compact` or `tidy` removes the leaves that deletes have emptied: then
+    /// twice the pairs that are there at any time are enough.
     ///
     /// Returns `Fault::BadSettings` if `key` or `value` is out of range, or (naming `segments`) if the pairs do not fit
     /// into 65,536 segments of 1 MiB.

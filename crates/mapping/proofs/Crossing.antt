@@ -1,4 +1,4 @@
--- Trees may cross threads as their allocator may.
+-- Trees may cross threads if their allocator may.
 use denote.RattleType.{RattleType}
 use denote.Param.Send.{IsSend, IsSync, Frees, sendable}
 use Rattle.std.specs.declared.alloc.Allocator.{Ghosts}

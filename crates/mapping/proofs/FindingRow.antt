@@ -35,7 +35,7 @@ row_6_1_pairs = refl
 
 -- ---- rows 13.1 to 13.6: the tree of row 4, damaged
 
--- its pages, where leaf 1 has this low key, and the root's second entry names this child
+-- its pages, where leaf 1 has this low key, and the root's second entry has this child
 abbrev pages_of_row_4 : Bytes → ℕ → List (ℕ × PageOfKind)
 pages_of_row_4 low child = leaf 0 [] (pairs (a ∷ b ∷ [])) ∷ leaf 1 low (pairs (c ∷ d ∷ e ∷ [])) ∷ index 2 [] (([], 0) ∷ (c, child) ∷ []) ∷ []
 

@@ -40,7 +40,7 @@ module _ {V : Type 0} (q k : ℕ) where
       passed_by (nat_eq q e.0) e (is_among q (keys_of es)) refl (λ x. d (x ∙ sym same)) h
   remove_by false e es rest s d h f = or_step (nat_eq q e.0) (is_among q (keys_of es)) (is_among q (keys_of rest)) h f
 
-  -- so does what isn't given up
+  -- so do pids that are not freed
   among-remove_entry : (es : List (ℕ × V)) → q ≢ k → is_among q (keys_of es) ≡ true → is_among q (keys_of (remove_entry (is_same_pid k) es)) ≡ true
   among-remove_entry [] d h = absurd (cc)
   among-remove_entry (e ∷ es) d h = remove_by (is_eq (nat_cmp k e.0)) e es (remove_entry (is_same_pid k) es) refl d h (among-remove_entry es d)

@@ -19,7 +19,7 @@ use Rattle.mapping.specs.Finding.{children_at, children_of_page}
 use Rattle.mapping.specs.Proper.{next_low, Tiled, HasIndexPages}
 use Rattle.mapping.proofs.TileLemmas.{next_names}
 
--- if the keys that a page names are below an end, so are its entries' keys
+-- if the keys of a page are below an end, so are its entries' keys
 entries_before : {X : Type 0} → (end : Option (List ℕ)) (p : Page X) → AreBefore end (named p) → AreBefore end (keys_of (page.entries p))
 entries_before None p a = tt
 entries_before (Some end) p a = all_keys_entries (λ k. is_below k end ≡ true) p a
@@ -79,7 +79,7 @@ spaced_joined (p ∷ ps) end h t =
 
 -- ---- places
 
--- below the places of some pages lie the places that their entries, joined, name
+-- below the places of some pages are the places of their concatenated entries
 pub places_below : (ps : List (ℕ × PageOfKind)) (here : List (Placed ℕ)) (end : Option (List ℕ)) → HasIndexPages ps here → AreHeaded 1 here
     → flat_map (children_at ps) (children (names here) end) ≡ children (joined here) end
 places_below ps [] end h d = refl

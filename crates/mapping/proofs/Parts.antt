@@ -71,7 +71,7 @@ branched_above up (v ∷ vs) b = b
 good_is_both : (s : Settings) (least : ℕ) (up : List (Placed ℕ)) → AllByRecursion (λ p. IsGoodIndex s least p.page) up ↔ (AllByRecursion (λ p. Fits s IsAnyPid p.page) up × AreHeaded least up)
 good_is_both s least up = all_both (λ p. Fits s IsAnyPid p.page) (λ p. IsHeaded least p.page) up
 
--- a level's pages are those that the level above it names
+-- a level's pages are those of the entries of the level above it
 named_by_stack : {V : Type 0} → (here : List (Placed V)) (above : List (List (Placed ℕ))) → Stacked here above → AreNamed (names here) above
 named_by_stack here [] k = length-map here name ∙ k
 named_by_stack here (up ∷ ups) k = (k.0).linked

@@ -1,4 +1,4 @@
--- A proper tree is determined by its pages: the root is the one page that no other names, and the height is how far the leaves are
+-- A proper tree is determined by its pages: the root is the one page that no other page has as a child, and the height is how far the leaves are
 -- below it.
 use Rattle.std.specs.Prelude.{◌≡◌, ℕ, zero, suc, pred, ◌+◌, ◌<◌, ◌⊎◌, Bool, true, false, nat_eq, ◌||◌, is_some, List, [], ◌∷◌, ◌++◌, map, flat_map, length, Option, Some, None}
 use Rattle.std.proofs.Common.{refl, sym, ap, ◌∙◌, subst, arith, inl, inr}
@@ -45,7 +45,7 @@ module _ (ps : List (ℕ × PageOfKind)) where
   abbrev children_of : Page ℕ → List ℕ
   children_of p = values_of (page.entries p)
 
-  -- an index page of the table names this pid
+  -- an index page of the table has this pid as a child
   record IsNamed (n : ℕ) : Type 0 where
     pid : ℕ
     up : Page ℕ
@@ -55,7 +55,7 @@ module _ (ps : List (ℕ × PageOfKind)) where
   children_joined : (p : Placed ℕ) (qs : List (Placed ℕ)) → values_of (joined (p ∷ qs)) ≡ children_of p.page ++ values_of (joined qs)
   children_joined p qs = map-append (λ (e : List ℕ × ℕ). e.1) (entries p) (joined qs)
 
-  -- what a level's pages name, one of them names
+  -- a child of a level's pages is a child of one of them
   named_by_level : (n : ℕ) (up : List (Placed ℕ)) → HasIndexPages ps up → is_among n (values_of (joined up)) ≡ true → IsNamed n
   named_by_level n [] h g = absurd (cc)
   named_by_level n (p ∷ qs) h g =
@@ -78,7 +78,7 @@ module _ (ps : List (ℕ × PageOfKind)) where
       let rest : is_among pid (pids qs) ≡ true = second_by (nat_eq pid p.pid) (is_among pid (pids qs)) e m in
       among_right n (children_of p.page) (values_of (joined qs)) (later rest)
 
-  -- what one of a level's pages names, the level names
+  -- a child of one of a level's pages is a child of the level
   named_in_level : (n pid : ℕ) (up : Page ℕ) (here : List (Placed ℕ)) → HasIndexPages ps here → page_at ps pid ≡ Some (Index up) → is_among pid (pids here) ≡ true
       → is_among n (children_of up) ≡ true → is_among n (values_of (joined here)) ≡ true
   named_in_level n pid up [] h g m c = absurd (cc)
@@ -88,7 +88,7 @@ module _ (ps : List (ℕ × PageOfKind)) where
 
   -- ---- the root
 
-  -- each page but the top one is named
+  -- each page except the top one is a child
   named_or_top : {V : Type 0} (level : List (Placed V)) (ups : List (List (Placed ℕ))) (n : ℕ) → Stacked level ups → AllByRecursion (HasIndexPages ps) ups → is_among n (all_pids level ups) ≡ true
       → (n ≡ top_pid level ups) ⊎ IsNamed n
   named_or_top [] [] n st h m = absurd (omega arith)

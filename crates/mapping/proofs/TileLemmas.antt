@@ -85,7 +85,7 @@ module _ {V : Type 0} where
       let here : AreBelow q.page.low (keys_of (entries p)) = all_keys_entries (λ j. is_below j q.page.low ≡ true) p.page h.0.keys.before in
       all_keys-append (λ j. is_below j hi ≡ true) (entries p) (joined (q ∷ qs)) (below_higher q.page.low hi (keys_of (entries p)) (low_is_before q qs (Some hi) h.1) here) (before-joined (q ∷ qs) (Some hi) h.1)
 
-  -- ---- the names of tiled pages
+  -- ---- the separators of tiled pages
 
   lows_above : (low : List ℕ) (ps : List (Placed V)) (end : Option (List ℕ)) → IsBefore (next_low ps end) low → Tiled ps end → IsBelowAll low (keys_of (names ps))
   lows_above low [] end l h = tt
@@ -111,9 +111,9 @@ module _ {V : Type 0} where
       let own : AreFrom p.page.low (keys_of (names (p ∷ ps))) = (not_below_itself p.page.low, from_below_all p.page.low (keys_of (names ps)) (lows_above p.page.low ps end h.0.low h.1)) in
       subst (λ (l : List ℕ). AreFrom l (keys_of (names (p ∷ ps)))) same own
 
-  -- ---- where names begin
+  -- ---- where separators begin
 
-  -- pages begin where their names do
+  -- pages begin where their separators do
   pub next_low-named : (ps : List (Placed V)) (n : List ℕ × ℕ) (ns : Separators) (end : Option (List ℕ)) → names ps ≡ n ∷ ns → next_low ps end ≡ Some n.0
   next_low-named [] n ns end e = absurd (cc)
   next_low-named (p ∷ ps) n ns end e = let f : name p ≡ n = cc in ap (λ (m : List ℕ × ℕ). Some m.0) f
@@ -174,7 +174,7 @@ module _ {V : Type 0} where
   next_names [] end = refl
   next_names (p ∷ ps) end = refl
 
-  -- the ranges of a level's pages are those of the places that its names name
+  -- the ranges of a level's pages are those of the places of its separators
   pub range-names : (xs ys : List (Placed V)) (p : Placed V) (end : Option (List ℕ))
       → children (names (xs ++ p ∷ ys)) end ≡ children (names xs) (Some p.page.low) ++ place_of (name p) (next_low ys end) ∷ children (names ys) end
   range-names xs ys p end =

@@ -45,7 +45,7 @@ module _ {V : Type 0} (look : ℕ → Page V) where
   met_after : (ns : Separators) (met : List ℕ) → all_met met (children ns None) ≡ pids (map (placed look) (values_of ns)) ++ met
   met_after ns met = ap (λ (x : List ℕ). x ++ met) (pids-children ns None ∙ sym (pids_at (values_of ns)))
 
-  -- the root's name, by its low key
+  -- the root's separator, by its low key
   one_name : (ns : Separators) → length ns ≡ 1 → next_key ns None ≡ Some [] → next_low (map (placed look) (values_of ns)) None ≡ Some [] → names (map (placed look) (values_of ns)) ≡ ns
   one_name [] l f g = refl
   one_name (e ∷ []) l f g =
@@ -60,12 +60,12 @@ module _ {V : Type 0} (look : ℕ → Page V) where
   same_names ns [] m f n g = one_name ns m f g
   same_names ns (up ∷ ups) m f n g = sym n ∙ m
 
--- if a level's pages are named by entries that begin at the empty key, so do they
+-- if a level's pages are those of entries that begin at the empty key, they begin there too
 first_of_named : {V : Type 0} → (here : List (Placed V)) (ns : Separators) → names here ≡ ns → next_key ns None ≡ Some [] → next_low here None ≡ Some []
 first_of_named here ns e f = sym (next_names here None) ∙ ap (λ (x : Separators). next_key x None) e ∙ f
 
 module _ (s : Settings) (ps : List (ℕ × PageOfKind)) where
-  -- ---- a level that is named by entries
+  -- ---- the level of some entries
 
   abbrev leaf_under : ℕ → Page (List ℕ)
   leaf_under pid = as_leaf (page_at ps pid)

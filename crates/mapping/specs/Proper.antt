@@ -1,4 +1,4 @@
--- When a tree is proper, as a fact.
+-- Proper trees. This is the proposition; the test is `finding`.
 use Rattle.std.specs.Prelude.{◌≡◌, ◌≢◌, ℕ, ◌<◌, ◌≤◌, true, ⊤, List, [], ◌∷◌, length, Option, Some, None}
 use Rattle.std.specs.List.{AllByRecursion}
 use Rattle.std.specs.Map.{keys_of}

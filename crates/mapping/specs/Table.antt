@@ -83,7 +83,7 @@ IsOldWithoutPlace t = AllByRecursion (λ l. place_of t l.0 ≡ None → l.1 ≡ 
 
 -- ---- all pids in a table
 
--- the log contains a page with another base than the present one
+-- the log contains a page that was replaced or freed since
 abbrev pub is_old : Logged → Bool
 is_old No = false
 is_old Old = true

@@ -6,7 +6,7 @@ use Rattle.keys.specs.declared.version.Version.{Version}
 use Rattle.index_page.specs.Page.{PageOfKind, bare}
 use Rattle.index_page.specs.Page.PageOfKind.{Leaf}
 
--- the log state of a pid: the log contains no page; a page with another base than the present one; or the present base and its oldest k runs
+-- the log state of a pid: the log contains no page; or a page that was replaced or freed since; or the base of the present page and its oldest k runs
 pub data Logged : Type 0 where
   No : Logged
   Old : Logged

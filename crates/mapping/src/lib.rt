@@ -2,7 +2,7 @@
 //! and what the log contains of each page.
 //!
 //! `specs/` defines stores, the levels of a tree, proper trees, and the choice of pids for new pages; `laws` has the
-//! laws about them. Other crates name items by this root, and laws by the public module `laws`.
+//! laws about them. Other crates import items from this root, and laws from the public module `laws`.
 #![tactic(auto)]
 
 mod due;

@@ -8,7 +8,7 @@ ghost use Rattle.mapping.specs.LogState.{log_state};
 pub enum Logged {
     /// The log contains no page.
     No,
-    /// The log contains a page with another base than the present one.
+    /// The log contains a page, but not with the base of the present page, or there is no present page.
     Old,
     /// The log contains the base of the present page, and this many of its oldest runs.
     Upto(u64),

@@ -76,7 +76,7 @@ impl<A: Allocator + Copy> PageTable<A> {
         requires { place_of self.old pid ≡ Some None }
         ensures { self.new ≡ with_place self.old pid (Some page) }
     {
-        // For any other log state, the pid was recorded when its page was taken.
+        // With any other log state, a pid whose place is empty is recorded already.
         if let Logged::No = self.table.logged(pid) {
             self.due.note(pid);
         }

@@ -58,7 +58,8 @@ pub(crate) fn occupy_all<P: Drop, A: Allocator + Copy>(
     Ok(())
 }
 
-// The least `count` numbers without a place, given that all numbers below `from` have one. There may be fewer.
+// The least `count` numbers without a place, given that all numbers below `from` have one. Fails if allocation fails,
+// or if too few numbers below `u64::MAX` have no place.
 pub(crate) fn least_free<P, A: Allocator + Copy>(
     alloc: A,
     slots: &[TableSlot<P>],

@@ -1,5 +1,5 @@
--- A scan that ends at the low key of a page is answered by the pages before that key as the scan itself is, and no command leaves
--- anything else; so a page's part of a batch is the same, whichever of its scans end so.
+-- A scan that ends at the low key of a page gets the same answers from the pages before that key as the scan itself, and no command leaves anything
+-- else; so a page's part of a batch is the same, whichever of its scans end so.
 use Rattle.std.specs.Prelude.{◌≡◌, ℕ, zero, suc, Bool, true, false, not, cond, ◌&&◌, ◌||◌, ⊤, List, [], ◌∷◌, ◌++◌, take, drop, option_to_list, slice_get, Option, Some, None}
 use Rattle.std.proofs.Common.{refl, sym, ap, ◌∙◌, subst, Ordering, Less, Equal, Greater}
 use Rattle.std.specs.List.{AllByRecursion}
@@ -103,7 +103,7 @@ module _ (low : List ℕ) (page_end : Option (List ℕ)) where
   reaches_by lo end false true p q h b = (and_parts (is_below lo low) (is_below low end) q).1
   reaches_by lo end false false p q h b = absurd (cc)
 
-  -- such a page answers as to the scan itself
+  -- such a page gives the same answer as to the scan itself
   pub reply-near : {A : Type 0} (keys : List (List ℕ)) (m : Pairs) (c : Command A) (end : Option (List ℕ)) → EndsBefore keys low page_end → IsNear keys c end → goes_to low page_end (with_end end c) ≡ true
       → reply_to (in_range low page_end m) (with_end end c) ≡ reply_to (in_range low page_end m) c
   reply-near {A} keys m c None f n g = refl

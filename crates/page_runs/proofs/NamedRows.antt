@@ -84,7 +84,7 @@ module _ {V : Type 0} where
   rising-present ((k, None) ∷ cs) r = rising-present cs r.1
   rising-present ((k, Some v) ∷ cs) r = (all_present (λ j. order k j ≡ Less) cs r.0, rising-present cs r.1)
 
-  -- of the keys that pairs and changes name, those that have a value are the pairs under the changes
+  -- of the keys of pairs and changes, those that have a value are the pairs under the changes
   present-named_by_either : (ps : List (List ℕ × V)) (cs : List (List ℕ × Option V)) → IsRising ps → IsRising cs → present_ones (named_by_either ps cs) ≡ with_run ps cs
   present-named_by_either ps cs r s =
       let n = rising-named_by_either ps cs r in

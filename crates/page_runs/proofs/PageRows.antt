@@ -36,7 +36,7 @@ module _ {V : Type 0} where
   pub rising-in_range : (low : List ℕ) (end : Option (List ℕ)) (es : List (List ℕ × V)) → IsRising es → IsRising (in_range low end es)
   rising-in_range low end es r = rising-filtered (λ e. is_within low end e.0) es r
 
--- ---- what was taken out of a walk
+-- ---- the next element of a walk
 
 module _ {L X : Type 0} (shows : L → X) where
   pub next_ahead : (r : Option L) (old new : List X) → MatchOption r ((old ≡ []) × (new ≡ [])) (λ x. old ≡ shows x ∷ new) → ahead shows r new ≡ old
@@ -48,7 +48,7 @@ module _ {L V : Type 0} (shows : L → List ℕ × V) where
   rising_next None x r old new e i h = absurd (cc)
   rising_next (Some y) x r old new e i h = rw (next_ahead shows r old new h) (sorted_tail order (shows y).0 (keys_of old) i)
 
--- ---- the keys that pairs and changes name
+-- ---- the keys of pairs and changes
 
 module _ {V : Type 0} where
   keys_of-as_changes : (ps : List (List ℕ × V)) → keys_of (as_changes ps) ≡ keys_of ps

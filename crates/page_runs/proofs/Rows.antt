@@ -43,7 +43,7 @@ class_then p cs = class_after S p (run_on p cs)
 abbrev empty : Page
 empty = record { runs = []; base = [] }
 
--- row 2: a key that comes, changes and goes within one batch is absent in the run
+-- row 2: a key that is put, changed and deleted within one batch is absent in the run
 row_2_run : run_on empty row_2 ≡ (a, None) ∷ []
 row_2_run = refl
 
@@ -56,7 +56,7 @@ row_2_depth = refl
 row_2_class : class_then empty row_2 ≡ Changed
 row_2_class = refl
 
--- row 3: an Add that finds the key has no entry in the run, and the page stays
+-- row 3: an Add of a present key has no entry in the run, and the page is unchanged
 abbrev with_a : Page
 with_a = record { runs = ((a, Some (49 ∷ [])) ∷ []) ∷ []; base = [] }
 
@@ -151,7 +151,7 @@ row_8_run = refl
 row_8_page : page_after from_c row_8 ≡ record { runs = ((c, None) ∷ (ca, Some (57 ∷ [])) ∷ []) ∷ []; base = from_c.base }
 row_8_page = refl
 
--- row 16.1: of a wipe of b to d the leaf before c has b absent
+-- row 16.1: after a wipe of b to d, the leaf before c has b absent
 abbrev left_leaf : Page
 left_leaf = record { runs = []; base = (a, 49 ∷ []) ∷ (b, 50 ∷ []) ∷ [] }
 
@@ -161,7 +161,7 @@ row_16_1_left = refl
 row_16_1_left_replies : answers_on left_leaf (Wipe b (Some d) ∷ Scan [] None 10 ∷ []) ≡ Wiped 1 ∷ Rows ((a, 49 ∷ []) ∷ []) ∷ []
 row_16_1_left_replies = refl
 
--- and the leaf from c on what was put after the wipe, and absent what was put before it
+-- and the leaf from c on has the pair that was put after the wipe, and the earlier ones absent
 abbrev right_leaf : Page
 right_leaf = record { runs = []; base = (c, 51 ∷ []) ∷ (d, 52 ∷ []) ∷ (e, 53 ∷ []) ∷ [] }
 
@@ -187,7 +187,7 @@ row_16_2_run = refl
 row_16_2_class : class_then wiped_leaf (Wipe [] None ∷ []) ≡ Same
 row_16_2_class = refl
 
--- a key that was put and deleted before it isn't counted, and none is absent that was never there
+-- a key that was put and deleted before the wipe is not counted, and no key is absent that never was present
 put_and_gone : answers_on left_leaf (Put d (49 ∷ []) ∷ Del d ∷ Wipe b None ∷ []) ≡ New ∷ Deleted ∷ Wiped 1 ∷ []
 put_and_gone = refl
 

@@ -17,7 +17,7 @@ use Rattle.page_runs.specs.Replies.{commands_at, ArePlacesOf}
 abbrev pub is_read_only : {A : Type 0} → Command A → Bool
 is_read_only c = is_reading (access_of c)
 
--- whether all of a page's commands do
+-- whether all of a page's commands are read-only
 abbrev pub is_only_read : {A : Type 0} → List (Command A) → Route → Bool
 is_only_read batch r = list_all is_read_only (commands_at batch r.places)
 

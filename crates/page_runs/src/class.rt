@@ -3,7 +3,7 @@
 /// What a batch did to a page, which decides what its parent must do.
 #[derive(Clone, Copy, Debug, PartialEq, Eq)]
 pub enum Class {
-    /// The batch had no run for the page.
+    /// The page's run has no changes, and the page is unchanged.
     Same,
     /// The page got a run in front, or was replaced by a page that is neither thin nor fat.
     Changed,

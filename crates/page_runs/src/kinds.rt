@@ -6,7 +6,8 @@ use std::alloc::Global;
 // without rows.
 const FEW_SCANS: usize = 16;
 
-/// How many commands of each kind there are for a page. Decides only how much room is reserved at first.
+/// How many commands of each kind there are for a page. Affects only how much room is reserved and how changes are
+/// stored, never the result.
 #[derive(Drop)]
 pub(crate) struct Kinds {
     gets: usize,

@@ -14,10 +14,10 @@ use delta_chain::{Chain, EntryBounds, LazyChain};
 use keys::{Settings, Value};
 use std::alloc::Global;
 
-// The most runs that may lie over a leaf's base in memory.
+// A leaf with at most this many runs over its base in memory may count them all as merged instead of being rebuilt.
 const PENDING_RUNS: usize = 16;
 
-// The most changes that these runs may contain together. Each scan of the leaf reads them, and they must be merged
+// The most changes that these runs may then contain together. Each scan of the leaf reads them, and they must be merged
 // eventually.
 const PENDING_CHANGES: usize = 32;
 

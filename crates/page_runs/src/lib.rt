@@ -1,6 +1,6 @@
 //! Applies a batch to single pages: a leaf's commands are executed on its contents, and their net run changes the leaf
-//! once; an index page is changed once, by the run of its terms. Other crates name items by this root, and laws by the
-//! public module `laws`.
+//! once; an index page is changed once, by the run of its terms. Other crates import items from this root, and laws
+//! from the public module `laws`.
 #![tactic(auto)]
 
 mod changes;

@@ -233,7 +233,7 @@ module _ {V : Type 0} (s : Side) (k : List ℕ) (run : List (List ℕ × Option 
         none_nearer = λ i o l. rw (unnamed_nearer s k a run at n p i o l) (f i o l);
       }
 
-      -- else it is the run's, and of one key what the run says of it
+      -- else it is the run's, and for the same key the run's change counts
       pub run-here : (e : List ℕ × Option V) → IsNearest s k (λ i. named_under i runs base) (Some e) → false ≡ is_lt (nearness s a e.0) → IsNearest s k (λ i. named_under i (run ∷ runs) base) (Some (a, c))
       run-here e u h = here (λ i o l. u.none_nearer i o (further (nearness s a e.0) i e refl (sym h) l))
 
@@ -272,13 +272,13 @@ module _ {V : Type 0} (s : Side) (k : List ℕ) (p : Layers V) where
   nearest-held j v n = record { on = n.on; has = holds-by j (Some (Some v)) n.has; none_nearer = λ i o l. holds-by i None (n.none_nearer i o l) }
 
   module _ (j : List ℕ) (n : IsNearest s k names (Some (j, None))) where
-    -- else nothing is held but past that key
+    -- else the page holds nothing up to that key
     past_by : (o : Ordering) (i : List ℕ) → nearness s j i ≡ o → is_on s k i ≡ true → (is_on (past s) j i ≡ true → holds p i ≡ None) → holds p i ≡ None
     past_by Less i h o f = holds-by i None (n.none_nearer i o h)
     past_by Equal i h o f = rw (← nearness-same s j i h) (holds-by j (Some None) n.has)
     past_by Greater i h o f = f (less_near s j i h)
 
-    -- so what is nearest past it is nearest
+    -- so the nearest past it is the nearest
     pub nearest-past : (x : Option (List ℕ × V)) → IsNearest (past s) j (holds p) x → IsNearest s k (holds p) x
     nearest-past None f = λ i o. past_by (nearness s j i) i refl o (f i)
     nearest-past (Some e) f = record {
@@ -292,13 +292,13 @@ module _ {V : Type 0} (s : Side) (k : List ℕ) (p : Layers V) where
   nearest-entries None r n = λ i o. value_at-entries_of p i r ∙ n i o
   nearest-entries (Some e) r n = record { on = n.on; has = value_at-entries_of p e.0 r ∙ n.has; none_nearer = λ i o l. value_at-entries_of p i r ∙ n.none_nearer i o l }
 
--- ---- past a key that is named, fewer keys are
+-- ---- past a key of the lists, there are fewer keys
 
 -- how many of the keys are on this side of a key
 abbrev count_on : Side → List ℕ → List (List ℕ) → ℕ
 count_on s k ks = count_by (λ i. is_on s k i) ks
 
--- how many the runs and the base name there, each as often as it is named
+-- the number of keys on this side in the runs and in the base, counting a key once for each list that contains it
 abbrev pub count_named : {V : Type 0} → Side → List ℕ → List (List (List ℕ × Option V)) → List (List ℕ × V) → ℕ
 count_named s k [] base = count_on s k (keys_of base)
 count_named s k (run ∷ runs) base = count_on s k (keys_of run) + count_named s k runs base

@@ -98,7 +98,7 @@ module _ {V : Type 0} where
   absent_by None (Some v) h = absurd (cc)
   absent_by (Some c) b h = h
 
-  -- the base names no key as absent
+  -- the base has no absent key
   said_absent : (j : List ℕ) (p : Layers V) → IsInOrder p → named_by p j ≡ Some None → value_at j (joined_changes p.runs) ≡ Some None
   said_absent j p r h = absent_by (value_at j (joined_changes p.runs)) (value_at j p.base) (sym (named-joined_changes j p.runs p.base r) ∙ h)
 

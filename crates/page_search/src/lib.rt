@@ -1,5 +1,5 @@
-//! Binary search in the parts of a page, with a count of the comparisons. Other crates name items by this root, and
-//! laws by the public module `laws`.
+//! Binary search in the parts of a page, with a count of the comparisons. Other crates import items from this root, and
+//! laws from the public module `laws`.
 #![tactic(auto)]
 
 pub mod laws;

@@ -46,7 +46,7 @@ pub fn find<'a, V, A: Allocator + Copy>(
     find_lent(chain.lent(), key, probes)
 }
 
-/// Like `find`, in a borrowed part of a page: its base and the runs from some run down.
+/// Like `find`, in a borrowed part of a page.
 pub fn find_lent<'a, V, A: Allocator + Copy>(
     chain: ChainRef<'a, V, A>,
     key: &[u8],

@@ -431,7 +431,7 @@ found_by_walk (Some f) fault (inr e) = inr (f, refl, e)
 pub found_first : (o p : Option Finding) (q : Option Finding) (f : Finding) → o ≡ Some f → o ≡ p → or_else p q ≡ Some f
 found_first o p q f is same = ap (λ (x : Option Finding). or_else x q) (sym same ∙ is)
 
--- what leaves by `?` is one of them
+-- an error that is returned by `?` is one of them
 pub found_leaves : {T : Type 0} (r : Result T Fault) (o : Option Finding) (fault : Fault) → IsErrAnd r (λ e. e ≡ fault) → IsFoundOrLate o fault → IfErr r (λ e. IsFoundOrLate o e)
 found_leaves (Ok x) o fault e h = tt
 found_leaves (Err y) o fault e h = subst (λ (z : Fault). IsFoundOrLate o z) (sym e) h

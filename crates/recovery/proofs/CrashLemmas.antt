@@ -90,7 +90,7 @@ module _ (s : Settings) (text : CommitKind) (st now : Store) (file bytes c : Lis
       (ap (λ (x : Store). after_text s x file (commit_frames text st.tree)) same ∙ h)
       (subst (λ (x : Store). IsUncommitted s (suc x.sequence) (spans s x.tail (commit_frames text st.tree)) file c) (sym same) hid)
 
-  -- a crash at any moment of it leaves the store that the disk stood for, or all that was written
+  -- a crash at any moment of it leaves the store that the disk encoded, or all that was written
   text-crashed : LeftDuring (text_calls s (store_with (version_with text) st) file (commit_frames text st.tree)) file c → (store_of_disk c ≡ store_of_disk file) ⊎ (c ≡ bytes)
   text-crashed during =
       let (on_disk, read, step) = is.step in

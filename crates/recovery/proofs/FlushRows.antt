@@ -51,7 +51,7 @@ spent = refl
 last_number : after_flush S (store pages_of_row_4 2 2 ((0, Old) ∷ []) 691 (2 ^ 62 - 1)) disk_of_row_9 ≡ Err Full
 last_number = refl
 
--- each page once more; and a second upgrade fails
+-- each page again; and a second upgrade fails
 row_15_1 : after_upgrade S (store pages_of_row_4 2 2 all_written 136 2) disk_of_row_4 ≡ Ok (store_of Two pages_of_row_4 2 2 all_written 238 3, disk_of_row_15)
 row_15_1 = refl
 

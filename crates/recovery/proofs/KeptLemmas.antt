@@ -308,6 +308,6 @@ module _ (w : Wanted) (old mid now : BTreeMap ℕ Kept) (f : Found) (kept : Kept
         ∙ sym (ap (λ (ns : List ℕ). is_among n ns) (map-append (λ (g : Found). g.frame.pid) found (f ∷ [])) ∙ among_more n f.frame.pid (map (λ (g : Found). g.frame.pid) found));
   }
 
--- whether a base is wanted, as the code asks it
+-- whether a base is wanted, as the code tests it
 pub wanted-same : (w v : Wanted) (n m : ℕ) (b : Bool) → v ≡ w → m ≡ n → b ≡ is_wanted_in v m → b ≡ is_wanted_in w n
 wanted-same w v n m b e same is = is ∙ ap (λ (u : Wanted). is_wanted_in u m) e ∙ ap (λ (k : ℕ). is_wanted_in w k) same

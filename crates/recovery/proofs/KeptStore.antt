@@ -52,7 +52,7 @@ module _ (s : Settings) (text : CommitKind) (st now : Store) (file bytes : List 
       of (Nothing none same) = ap (λ (x : Store). x.tree) same ∙ sym (as_it_was none)
       of (Something done) = ap (λ (x : Store). x.tree) done.store
 
-  -- the store stays one as every store is, whatever its disk does
+  -- the store still satisfies the invariant of stores, whatever its disk does
   text-kept : IsStore s st → HasFrames s text st.tree → IsStore s now
   text-kept is within = of (is_written s text st now file bytes (commit_frames text st.tree) refl h)
     where
@@ -114,7 +114,7 @@ module _ (s : Settings) (st now : Store) (file bytes : List ℕ) (h : after_upgr
 
 -- ---- a batch
 
--- a tree in the place of the one there was
+-- the store with a new tree satisfies the invariant, if the tree is proper and its log states are true
 pub batch-kept : (s : Settings) (st : Store) (new : Tree) → IsStore s st → IsProper s new → AreLogsTrue new → new.root < 2 ^ 64 → new.height ≤ 64
     → IsStore s (with_tree st new)
 batch-kept s st new is proper logs root height =

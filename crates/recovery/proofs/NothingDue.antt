@@ -98,7 +98,7 @@ logs-in_log ps root height rising = record {
 }
 
 module _ (t : Tree) (rising : AreRisingPids (keys_of t.pages)) (logs : AreLogsTrue t) where
-  -- a tree that the log lacks nothing of is the one that is written
+  -- a tree of which the log lacks nothing is the one that is written
   pub nothing-due : (version : Version) → flush_frames version t ≡ [] → flushed t ≡ t
   nothing-due version e =
       let same : (pid : ℕ) → logged_of (flushed t) pid ≡ logged_of t pid = λ pid.

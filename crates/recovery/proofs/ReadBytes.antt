@@ -68,7 +68,7 @@ read_after a b file kept same read = record {
   honest = λ honest. let was : IsTrue a.is_honest = subst IsTrue kept.honest honest in read.honest was ∙ sym (same was).seen;
 }
 
--- a fault that was handed on
+-- a fault that was passed on
 pub handed_on : {X : Type 0} (r : Result X Fault) (P : X → Type 0) (Q : Fault → Type 0) (fault : Fault) → IsErrAnd r (λ f. f ≡ fault) → Q fault → MatchResult r P Q
 handed_on (Ok x) P Q fault is h = absurd is
 handed_on (Err f) P Q fault is h = subst Q (sym is) h

@@ -59,7 +59,8 @@ module _ (g : Format) (good : first_bad_field g.settings ≡ None) (file buf : L
 
 -- ---- all of them
 
--- bytes whose k segments from the head on were read, by what has taken what they hold; before the segments they are as these
+-- bytes whose k segments from the head on were read, with a predicate on what was found in them; before the segments they are the same as the other
+-- bytes
 pub record AreReadUpto (Has : ReadResult → Type 0) (v : View) (g : Format) (head k : ℕ) (file now : List ℕ) : Type 0 where
   pub bytes : IsReadOf v now
   pub front : take segments_begin now ≡ take segments_begin file
@@ -96,7 +97,7 @@ module _ (g : Format) (head : ℕ) (file now buf : List ℕ) (old new : View) (n
         found = subst (λ (m : ℕ). More (read_earlier g then_now head m)) (sym count) (subst (λ (r : ReadResult). More r) state (takes earlier h.found));
       }
 
--- what is in use of the last one
+-- the used part of the last one
 pub read-last : (g : Format) (e : LogEnds) (file buf : List ℕ) (old : View) (n : ℕ) → first_bad_field g.settings ≡ None → disk_size g.settings ≤ old.size → AreEnds g.settings e → n ≡ last_segment g.settings e.tail
     → length buf ≡ bytes_in_use g.settings e.tail → IsReadOf old file → (let now : List ℕ = overlay file (place_of_segment g.settings n) buf in (take segments_begin now ≡ take segments_begin file)
     × (followed_by (read_earlier g file e.head (last_segment g.settings e.tail - e.head)) (read_segment g is_at_tail n buf) ≡ log_between g now e.head e.tail))
@@ -149,7 +150,7 @@ pub following-all : (v : View) (g : Format) (head k upto all : ℕ) (gs : List S
     → scanned_after g (read_earlier g file head k) (map held_segment gs) ≡ read_earlier g now head all
 following-all v g head k upto all gs file now same h = h.found ∙ ap (λ (m : ℕ). read_earlier g now head m) same
 
--- and these were taken too
+-- and these were scanned too
 pub round-more : (Has More : ReadResult → Type 0) (old new : View) (g : Format) (head k all : ℕ) (gs : List Segment) (file before now : List ℕ) → AreReadUpto Has old g head k file before
     → IsReadOf new now → take segments_begin now ≡ take segments_begin before → scanned_after g (read_earlier g before head k) (map held_segment gs) ≡ read_earlier g now head all
     → ((state : ReadResult) → Has state → More (scanned_after g state (map held_segment gs))) → AreReadUpto More new g head all file now
@@ -159,13 +160,13 @@ round-more Has More old new g head k all gs file before now upto bytes front sta
   found = subst More state (takes (read_earlier g before head k) upto.found);
 }
 
--- the last segment was taken, and so the whole log
+-- the last segment was scanned, and so the whole log
 pub last-taken : {X : Type 0} (r : Result X Fault) (Has : ReadResult → Type 0) (state whole : ReadResult) → state ≡ whole → OnOk r (Has state) → OnOk r (Has whole)
 last-taken r Has state whole same h = subst (λ (t : ReadResult). OnOk r (Has t)) same h
 
 -- ---- numbers
 
--- how many bytes of the last segment are in use, as the code has it
+-- how many bytes of the last segment are in use, as the code computes it
 pub in_use : (s : Settings) (tail last size : ℕ) → last ≡ last_segment s tail → size ≡ s.seg_size → tail - last * size ≡ bytes_in_use s tail
 in_use s tail last size at all = ap (λ (n : ℕ). tail - last * n) all ∙ ap (λ (n : ℕ). tail - n * s.seg_size) at
 

@@ -22,7 +22,7 @@ second-of disk slots are = ap (λ (bs : List ℕ). take 64 bs) (sym (drop-drop 6
 pub disk-of : (slots : List ℕ) → length slots ≡ 128 → take 128 (drop 128 (replicate 128 0 ++ slots)) ≡ slots
 disk-of slots long = ap (λ (bs : List ℕ). take 128 bs) (drop_at (replicate 128 0) slots 128 (length-replicate {A = ℕ} 128 0)) ∙ take_all 128 slots (omega (arith, long))
 
--- what is the store's may be
+-- the store's slot is well formed
 pub slot-good : (s : Settings) (disk : List ℕ) (r : Result Slot Fault) → r ≡ store_slot s disk → IfOk r (λ t. is_slot s t.sequence t ≡ true)
 slot-good s disk (Ok t) e = (slot-stands s t.sequence t disk (store_slot-read s disk t (sym e))).good
 slot-good s disk (Err fault) e = tt

@@ -133,7 +133,7 @@ module _ (s : Format) where
       let no_base : is_base f.content ≡ false = rw none refl in
       sym (ap page_state read.read ∙ none_read (f ∷ []) (read_frames s is_at_tail (length bytes - length (f ∷ [])) next) (λ gs. none-page f.content (said gs) no_base))
 
--- as code asks it
+-- as the code tests it
 pub tail_by : (rest : Bytes) (b : Bool) → (length rest == 0) ≡ b → is_at_tail rest ≡ b
 tail_by [] b e = e
 tail_by (x ∷ xs) b e = sym (ne_eqb (length (x ∷ xs)) 0 (λ h. omega (arith, h))) ∙ e

@@ -77,9 +77,9 @@ in-front s file now first old new within before kept was is front t settings slo
     let long = is.whole ∙ kept.size ∙ sym whole in
     (front-settings file now long front room ∙ settings, front-slot file now long front s room ∙ slot)
 
--- ---- what was read, by the parts in which it is handed on
+-- ---- what was read, by the parts in which it is passed on
 
--- of whatever frames were gathered, the tree is right; or the fault is
+-- for any gathered frames, the tree or the fault is right
 abbrev pub IsTreeOf : TreeInMemory → Format → Slot → Gathering → Type 0
 IsTreeOf tree f t g = (found : List Found) → AreGathered f Every g found → (wrong_in f.settings t (frames_in found) ≡ None) × (tree_of tree ≡ tree_by_log t (frames_in found)) × AreAllHome tree
 

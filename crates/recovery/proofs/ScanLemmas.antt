@@ -99,7 +99,7 @@ module _ (s : Format) (is_end : Bytes → Bool) where
 -- ---- one frame
 
 module _ (s : Format) (rest : Bytes) where
-  -- what code that skims a frame at the front of these bytes returns
+  -- the result of code that skims a frame at the front of these bytes
   pub record IsDecidedOf (state : Option Skimmed) : Type 0 where
     pub found : MatchOption state (read_frame s rest ≡ None) (λ k. (f : Frame) × (read_frame s rest ≡ Some (f, drop k.size rest)) × IsSkimmed k f × (take k.size rest ≡ bytes_of f))
     pub within : IfSome state (λ k. k.size ≤ length rest)
@@ -108,7 +108,7 @@ module _ (s : Format) (rest : Bytes) where
   state-none None e h = h.found
   state-none (Some k) e h = absurd (cc)
 
-  -- the frame that was identified so
+  -- the frame that was identified in this way
   pub record IsFrame (k : Skimmed) : Type 0 where
     pub frame : Frame
     pub read : read_frame s rest ≡ Some (frame, drop k.size rest)
@@ -151,7 +151,7 @@ held-same : (n p q : ℕ) (a b : FrameKind) (x y : Bytes) → p ≡ q → a ≡ 
 held-same n p q a b x y pid kind bytes = ap (λ (m : ℕ). held n m a x) pid ∙ ap (λ (k : FrameKind). held n q k x) kind ∙ ap (λ (bs : Bytes). held n q b bs) bytes
 
 module _ (s : Format) (is_end : Bytes → Bool) (long n : ℕ) (body : Bytes) where
-  -- in the words of the code, if nothing was read
+  -- in terms of the code, if nothing was read
   pub upto-none : (items : List ScannedFrame) (bytes : Bytes) → items ≡ [] → body ≡ drop 16 bytes → length bytes ≤ long
       → IsUpto s is_end long n body items (take (length bytes - 16) (drop 16 bytes))
   upto-none items bytes none is fits =

@@ -1,4 +1,4 @@
--- What is found of a log, after one more segment at a time.
+-- The frames found in a log, after one more segment at a time.
 use Rattle.std.specs.Prelude.{◌≡◌, ℕ, true, false, List, [], ◌∷◌, ◌++◌, map, fold, Option, Some, None, is_some, Result, Ok, Err, MatchResult, Vec, ◌⊎◌}
 use Rattle.std.specs.declared.alloc.Global.{Global}
 use Rattle.std.proofs.Common.{refl, sym, ap, ◌∙◌, subst, inl, append_assoc, append-nil}
@@ -159,7 +159,7 @@ left-none w gathering o every left none h = of h.read h.all (h.same ∙ ap (λ (
     of [] all same = subst (λ (t : ReadResult). IsPartialLog w gathering o t) all h.is
     of (r ∷ rs) all same = absurd (cc)
 
--- ---- what a round makes
+-- ---- the result of a round
 
 scans-each : (s : Format) (gs : List HeldSegment) → map said_of (map (scanned s) gs) ≡ map (λ g. said_of (scanned s g)) gs
 scans-each s [] = refl
@@ -170,7 +170,7 @@ scans-made s own gs made same is = scans-each s gs ∙ ap (λ (t : Format). map 
 
 -- ---- the whole log
 
--- the frames that were gathered are such as a store may have, since the log is read so
+-- a store may have the gathered frames, because the log is read in this way
 pub gathered-all : (s : Format) (w : Wanted) (old new : ℕ) (state : ReadResult) → ((found : List Found) → state ≡ all found → AllByRecursion (λ f. is_frame s f.frame ≡ true) found)
     → (r : Result Gathering Fault) → MatchResult r (λ g. (found : List Found) × (state ≡ Ok found) × AreLive w g found) (λ fault. state ≡ Err fault)
     → MatchResult r (λ g. (found : List Found) × (state ≡ Ok found) × AreGathered s w g found) (λ fault. (state ≡ Err fault) ⊎ IsLate old new fault)

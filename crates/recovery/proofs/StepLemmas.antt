@@ -15,7 +15,7 @@ use Rattle.recovery.specs.InStep.{IsLogged, AreInStep, KeepsLogged}
 
 -- ---- a store that equals the one that its disk encodes
 
--- what the log has of a page that it has as it is
+-- the log state of a page that the log has unchanged
 abbrev pub whole_of : Option PageOfKind → Logged
 whole_of None = No
 whole_of (Some p) = Upto (page_depth p)
@@ -54,7 +54,7 @@ itself-in_step ps root height t = record {
   upto = λ pid k h. upto_whole (page_at ps pid) k (sym (logged-whole ps pid) ∙ h);
 }
 
--- ---- a tree that came of one in step
+-- ---- a tree that was made from one in step
 
 over_over : {V : Type 0} (a b c : Page V) → IsOver a b → IsOver b c → IsOver a c
 over_over a b c f g = record {

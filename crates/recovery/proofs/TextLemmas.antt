@@ -74,7 +74,7 @@ true_by true pages n pid here rest l e t f h =
     subst (λ (m : ℕ). IsTrueOf (page_at pages m) l) at (subst (λ (x : Logged). IsTrueOf (page_at pages n) x) same t)
 true_by false pages n pid here rest l e t f h = f h
 
--- what is listed of a pid is true of its page
+-- the log state of a pid is true for its page
 pub true_at : (pages : List (ℕ × PageOfKind)) (ls : List (ℕ × Logged)) (pid : ℕ) (l : Logged) → AllByRecursion (λ e. IsTrueOf (page_at pages e.0) e.1) ls → listed_at ls pid ≡ Some l → IsTrueOf (page_at pages pid) l
 true_at pages [] pid l a h = absurd (cc)
 true_at pages (e ∷ es) pid l a h = true_by (is_eq (nat_cmp pid e.0)) pages e.0 pid e.1 (listed_at es pid) l refl a.0 (λ r. true_at pages es pid l a.1 r) h
@@ -134,7 +134,7 @@ module _ (text : CommitKind) (t : Tree) where
 
 -- ---- the log with the new frames after it
 
--- a page, or none, as a log says it
+-- a page, or none, as a log determines it
 abbrev pub as_read : Option PageOfKind → InLog
 as_read None = Missing
 as_read (Some p) = Present p
@@ -158,7 +158,7 @@ newer_by encoding cs k Broken now e h = absurd h
 newer_by encoding cs k (Present x) None e h = absurd h
 newer_by encoding cs k (Present x) (Some p) e h = page-newer cs k x p e h
 
--- what contents say, with those after them that are written: just the page that there is
+-- the contents in the log, followed by the written ones, determine exactly the present page
 after_by : (encoding : KeyEncoding) (cs : List Content) (now : Option PageOfKind) (l : Logged) → is_broken (page_by_log cs) ≡ false → (l ≡ No → page_in (page_by_log cs) ≡ None) → ((k : ℕ) → l ≡ Upto k → IsLogged k (page_in (page_by_log cs)) now)
     → page_by_log (cs ++ lacking encoding now l) ≡ as_read now
 after_by encoding cs (Some p) No sound none upto = page-whole encoding cs p
@@ -176,7 +176,7 @@ pub record IsKnown (t : Tree) (fs : List Frame) : Type 0 where
   pub upto : (pid k : ℕ) → logged_of t pid ≡ Upto k → IsLogged k (page_at (pages_of fs) pid) (page_at t.pages pid)
 
 module _ (text : CommitKind) (t : Tree) (fs : List Frame) (known : IsKnown t fs) where
-  -- what the log then says of each pid
+  -- the page that the log then determines for each pid
   pub state-after : (pid : ℕ) → in_log (fs ++ commit_frames text t) pid ≡ as_read (page_at t.pages pid)
   state-after pid =
       let here : page_at (pages_of fs) pid ≡ page_in (in_log fs pid) = page_at-pages_of fs pid in

@@ -155,7 +155,7 @@ pub record AreLive (w : Wanted) (g : Gathering) (found : List Found) : Type 0 wh
   pub wanted : g.wanted ≡ w
   pub kept : AreKept w g.by_pid found
 
--- and a log of this format may contain these frames
+-- the same, and a log of this format may contain these frames
 pub record AreGathered (s : Format) (w : Wanted) (g : Gathering) (found : List Found) : Type 0 where
   pub live : AreLive w g found
   pub within : AllByRecursion (λ f. is_frame s f.frame ≡ true) found

@@ -7,7 +7,7 @@
 //! Laws: a flush is read back, and so is an upgrade; the store that is read satisfies the invariant of stores; a new
 //! disk encodes the first store; a tree that keeps the log states stays in step; bytes that no reading examines do not
 //! matter; a crash during a flush or an upgrade leaves the old store or the new one; the effect of a flush on the table
-//! in memory. Other crates name items by this root, and laws by the public modules `laws` and `table_laws`.
+//! in memory. Other crates import items from this root, and laws from the public modules `laws` and `table_laws`.
 #![tactic(auto)]
 
 mod build_tree;

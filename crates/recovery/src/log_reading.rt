@@ -214,8 +214,8 @@ fn read_segments<D: Disk>(
 ///
 /// Fails with the fault at the least position of the log, `Fault::BadSegment` or `Fault::BadFrame`; with
 /// `Fault::NoMemory`; or with `Fault::Device` if a read fails. All segments are read, also those after a segment with a
-/// fault, which are not scanned, so `Fault::Device` may come instead of that fault. Besides the gathered frames it
-/// needs memory for at most 4 MiB of segments at a time, whatever the crew, and for the places of their frames.
+/// fault, so `Fault::Device` may come instead of that fault. Besides the gathered frames it needs memory for at most 4
+/// MiB of segments at a time, whatever the crew, and for the places of their frames.
 pub fn read_log<D: Disk>(
     rt: &(impl Threads + Sync),
     crew: Crew,

@@ -100,8 +100,8 @@ impl PartialLog {
     }
 
     /// Adds the next segments, which the crew scans in parallel. A fault in their bytes is part of the result and not
-    /// an error: later segments do not count, and are not scanned. The only error is `Fault::NoMemory`; the result is
-    /// then unspecified.
+    /// an error: segments after it do not count, and the next calls do nothing. The only error is `Fault::NoMemory`;
+    /// the result is then unspecified.
     pub(crate) fn take<R: Threads + Sync>(
         &mut self,
         rt: &R,

@@ -26,7 +26,7 @@ pub struct PageLog {
 /// The result of building a page.
 #[derive(Drop)]
 pub struct Rebuilt {
-    /// The frames, which are retained until it is known that there was memory for all pages.
+    /// The frames, which are retained until all pages of the round are built.
     pub log: PageLog,
     /// The page, if the frames form one.
     pub page: Option<Page<Global>>,

@@ -1,4 +1,4 @@
--- Deletes of the keys that a wipe finds: they leave what the wipe leaves. For the proofs of this crate and of those above it.
+-- Deleting the keys that a wipe finds gives the same map as the wipe. For the proofs of this crate and of those above it.
 use Rattle.std.specs.Prelude.{◌≡◌, ℕ, Bool, true, false, cond, not, ◌&&◌, ◌||◌, List, [], ◌∷◌, Option, Some, None, is_some}
 use Rattle.std.proofs.Common.{refl, sym, ap, ◌∙◌}
 use Rattle.std.specs.Map.{keys_of}
@@ -51,7 +51,7 @@ left_by true (Some v) = refl
 left_by false o = refl
 
 module _ (A : Type 0) where
-  -- what deletes leave
+  -- the map after deletes
   value_at-dels : (m : Pairs) (ks : List (List ℕ)) (q : List ℕ) → IsRising m → value_at q (map_after_all m (dels_of {A = A} ks)) ≡ cond (has_key q ks) None (value_at q m)
   value_at-dels m [] q r = refl
   value_at-dels m (k ∷ ks) q r =
@@ -59,7 +59,7 @@ module _ (A : Type 0) where
       ∙ ap (λ (o : Option (List ℕ)). cond (has_key q ks) None o) (value_at-without m k q r ∙ ap (λ (b : Bool). cond b None (value_at q m)) (alike.symm k q))
       ∙ gone_by (is_eq (order q k)) (has_key q ks) (value_at q m)
 
-  -- deletes of the keys that a wipe finds leave what the wipe leaves
+  -- deleting the keys that a wipe finds gives the same map as the wipe
   pub wiped_by_dels : (m : Pairs) (lo : List ℕ) (hi : Option (List ℕ)) → IsRising m → map_after_all m (dels_of {A = A} (keys_of (in_range lo hi m))) ≡ out_of_range lo hi m
   wiped_by_dels m lo hi r =
       same_map (map_after_all m (dels_of {A = A} (keys_of (in_range lo hi m)))) (out_of_range lo hi m) (rising-map_after_all m (dels_of {A = A} (keys_of (in_range lo hi m))) r) (rising-filtered (λ e. not (is_within lo hi e.0)) m r)

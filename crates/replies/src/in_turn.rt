@@ -53,7 +53,8 @@ impl<'a> LentMap<'a> {
         }
     }
 
-    /// Sets the value of `key`, and returns whether the map had this key. Fails with `AllocError` if memory runs out; drop the map then.
+    /// Sets the value of `key`, and returns whether the map had this key. Fails with `AllocError` if memory runs out;
+    /// drop the map then.
     pub fn insert(&mut self, key: &'a [u8], value: &'a [u8]) -> Result<bool, AllocError>
         ensures map { OnOk result (self.new ≡ with_pair self.old key.now value.now) }
         ensures there { IfOk result (λ there. there ≡ is_some (value_at key.now self.old)) }
@@ -63,9 +64,9 @@ impl<'a> LentMap<'a> {
         Ok(before.is_some())
     }
 
-    /// Executes `command` and returns its reply. Appends to `points` commands on one key each that make the same change: a put, add or
-    /// delete itself, and for a wipe the delete of each key that it finds. Fails with `AllocError` if memory runs out; drop the map and
-    /// `points` then.
+    /// Executes `command` and returns its reply. Appends to `points` commands on one key each that make the same
+    /// change: a put, add or delete itself, and for a wipe the delete of each key that it finds. Fails with
+    /// `AllocError` if memory runs out; drop the map and `points` then.
     pub fn execute(
         &mut self,
         alloc: Global,
@@ -243,8 +244,8 @@ impl<'a> LentMap<'a> {
     }
 }
 
-/// Executes `commands` on `map`, in their order. Returns their replies, and commands on one key each (see `LentMap::execute`) that make the
-/// same changes. Fails with `AllocError` if memory runs out.
+/// Executes `commands` on `map`, in their order. Returns their replies, and commands on one key each (see
+/// `LentMap::execute`) that make the same changes. Fails with `AllocError` if memory runs out.
 pub fn execute_in_turn<'a>(
     alloc: Global,
     map: LentMap<'a>,

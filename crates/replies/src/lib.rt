@@ -1,5 +1,5 @@
-//! The replies of a batch, combined from the answers of its pages. Other crates name items by this root, and laws by
-//! the public module `laws`.
+//! The replies of a batch, combined from the answers of its pages. Other crates import items from this root, and laws
+//! from the public module `laws`.
 #![tactic(auto)]
 
 mod in_turn;

@@ -196,7 +196,7 @@ module _ {A : Type 0} (cs : List (Command A)) (pages : List (ℕ × PageOfKind))
       let same : page ≡ index_under pages s.pid = cc in
       (same, subst (λ (p : PageOfKind). CanHandDownShare cs p s) (sym same) h.share)
 
-  -- one more share is handed down, and what the others become is still to come
+  -- one more share is distributed, and the others remain to be distributed
   level_step : (old new rest : List Lent) (share : Lent) (page : PageOfKind) (whole : List Share) → page ≡ index_under pages share.pid → lent_shares new ≡ lent_shares old ++ shares_below cs page (all_of (share_of_lent share))
       → lent_shares old ++ flat_map (share_below pages cs) (lent_shares (share ∷ rest)) ≡ whole → lent_shares new ++ flat_map (share_below pages cs) (lent_shares rest) ≡ whole
   level_step old new rest share page whole e i h =
@@ -209,7 +209,7 @@ module _ {A : Type 0} (cs : List (Command A)) (pages : List (ℕ × PageOfKind))
   share_at_drop : (all : List Lent) (i : ℕ) (d : Lent) → i < length all → drop i all ≡ get_or all i d ∷ drop (i + 1) all
   share_at_drop all i d l = let e : suc i ≡ i + 1 = omega arith in drop-cons all i d l ∙ ap (λ (j : ℕ). get_or all i d ∷ drop j all) e
 
-  -- of shares that are ready, the one that was taken from a place can be handed down
+  -- of shares that are ready, the one that was taken from a place can be distributed
   pub ready_share : (all : List Lent) (i : ℕ) (d l : Lent) (pid : ℕ) (page : PageOfKind) → i < length all → l ≡ get_or all i d → pid ≡ l.pid → AreReadyShares pages cs all → Some page ≡ page_at pages pid → CanHandDownShare cs page (share_of_lent l)
   ready_share all i d l pid page w t q h e = (ready_now (share_of_lent l) page (share_taken (IsReadyShare pages cs) all i d l w t h.each) (e ∙ ap (λ (n : ℕ). page_at pages n) q)).1
 
@@ -237,7 +237,7 @@ module _ {A : Type 0} (cs : List (Command A)) (pages : List (ℕ × PageOfKind))
 
 -- ---- the levels of a tree, from the root down
 
--- the names of the pages a number of levels below the root
+-- the separators of the pages a number of levels below the root
 abbrev pub names_at : List (ℕ × PageOfKind) → ℕ → ℕ → Separators
 names_at pages root zero = ([], root) ∷ []
 names_at pages root (suc i) = joined (map (index_at pages) (values_of (names_at pages root i)))
@@ -261,7 +261,7 @@ module _ (pages : List (ℕ × PageOfKind)) where
       ∙ ap (λ (ps : List (Placed ℕ)). joined ps) (index_pages_found pages up h.0)
       ∙ o.0.linked
 
-  -- what is known of the level so far below the root: its pages have these names, and are a level of index pages
+  -- the known facts about the level this far below the root: its pages have these separators, and are a level of index pages
   pub record IsLevelAt (root : ℕ) (i : ℕ) : Type 0 where
     pub level : List (Placed ℕ)
     pub named : names_at pages root i ≡ names level
@@ -313,7 +313,7 @@ module _ (t : Tree) (held : HoldsLevels t.pages (levels_of t)) (levels : AreLeve
   above_height : length (levels_of t).above ≡ pred t.height
   above_height = let e = height-levels t.pages (pred t.height) (t.root ∷ []) [] in e ∙ (let z : pred t.height + 0 ≡ pred t.height = omega arith in z)
 
-  -- the names of the leaves
+  -- the separators of the leaves
   pub names-leaves : names_at t.pages t.root (pred t.height) ≡ names (levels_of t).level
   names-leaves =
       ap (λ (i : ℕ). names_at t.pages t.root i) (sym above_height)

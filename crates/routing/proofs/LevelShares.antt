@@ -257,7 +257,7 @@ module _ {A : Type 0} (cs : List (Command A)) (ps : List ℕ) (in_order : AreInK
       abbrev handed : Share
       handed = record { pid = at.pid; own = own; reaching = stay }
 
-      -- what a child is handed is a share for it
+      -- what a child gets is a share for it
       child_share : IsShareFor cs ps at handed
       child_share = record {
         pid = refl;
@@ -383,7 +383,7 @@ module _ {A : Type 0} (cs : List (Command A)) (ps : List ℕ) (in_order : AreInK
     places_are : (p : Placed ℕ) (up : List (Placed ℕ)) (end : Option (List ℕ)) → children (names (p ∷ up)) end ≡ place_of p (next_low up end) ∷ children (names up) end
     places_are p up end = children-cons (name p) (names up) end ∙ ap (λ (x : Option (List ℕ)). place_of p x ∷ children (names up) end) (next_names up end)
 
-    -- the shares of a level's pages, handed down, are those of the pages below
+    -- the shares of a level's pages, distributed, are those of the pages below
     pub shares-below : (up : List (Placed ℕ)) (end : Option (List ℕ)) (ss : List Share) → IsIndexLevel pages end up → AreSharesFor cs ps (children (names up) end) ss → AreSharesFor cs ps (children (joined up) end) (below ss)
     shares-below [] end ss l a = none_below refl a
     shares-below (p ∷ up) end ss l a =
@@ -394,7 +394,7 @@ module _ {A : Type 0} (cs : List (Command A)) (ps : List ℕ) (in_order : AreInK
         let places : children es (next_low up end) ++ bts ≡ children (joined (p ∷ up)) end = ap (λ (x : Option (List ℕ)). children es x ++ bts) (sym (next_joined up end l.headed.1)) ∙ sym (children-append es (joined up) end) in
         subst (λ (x : List Place). AreSharesFor cs ps x (below ss)) places here
 
-    -- the share of a page can be handed down
+    -- the share of a page can be distributed
     ready_page : (p : Placed ℕ) (end : Option (List ℕ)) (s : Share) → page_at pages p.pid ≡ Some (Index p.page) → IsHeaded 1 p.page → IsTile end p → IsShareFor cs ps (place_of p end) s → IsReadyShare pages cs s
     ready_page p end s held headed tile h =
         let own : List ℕ = filter (is_in_range cs p.page.low end) ps in
@@ -474,7 +474,7 @@ module _ (t : Tree) (held : HoldsLevels t.pages (levels_of t)) (levels : AreLeve
   pub root_level : (ss : List Share) → ss ≡ root_shares t.root ps → AreSharesAt 0 ss
   root_level ss e = subst (λ (x : List Share). AreSharesAt 0 x) (sym e) (top_by (has_any top) refl)
 
-  -- the shares of a level, handed down, are those of the next
+  -- the shares of a level, distributed, are those of the next level
   pub shares-next : (i : ℕ) (ss : List Share) → i < pred t.height → AreSharesAt i ss → AreSharesAt (i + 1) (flat_map (share_below t.pages cs) ss)
   shares-next i ss l a =
       let here = level_at t held levels i l in

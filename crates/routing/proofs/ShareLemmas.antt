@@ -139,7 +139,7 @@ none_reaching_by : {A : Type 0} (cs : List (Command A)) (rs : List ℕ) (es : Li
 none_reaching_by cs [] es h = refl
 none_reaching_by cs (r ∷ rs) es h = absurd (cc)
 
--- ---- shares as the code has them
+-- ---- shares in the form of the code
 
 -- what holds of all shares holds of the one at a place
 pub share_at : (P : Share → Type 0) (shares : List Lent) (i : ℕ) (d : Lent) → i < length shares → AllByRecursion P (lent_shares shares) → P (share_of_lent (get_or shares i d))
@@ -502,7 +502,7 @@ module _ {A : Type 0} (cs : List (Command A)) where
       ∙ ap (λ (x : List Keyed). lent_shares old ++ shares_below cs page (places_of x)) (sym (drop_all start es l))
       ∙ h
 
-  -- ---- a share that can be handed down
+  -- ---- a share that can be distributed
 
   pub can_keyed : (page : PageOfKind) (l : Lent) (ks : List Keyed) → ks ≡ l.keyed → CanHandDownShare cs page (share_of_lent l) → AreKeyed cs l.keyed → CanHandDownKeyed cs page ks
   can_keyed page l ks e h k = subst (λ (x : List Keyed). CanHandDownKeyed cs page x) (sym e) (record { places = h.own; keys = k })

@@ -459,7 +459,7 @@ module _ {A : Type 0} (cs : List (Command A)) where
     key = e;
   }
 
-  -- one more share is handed down
+  -- one more share is distributed
   pub scan_step : (page : PageOfKind) (low k end : List ℕ) (rs onward : List ℕ) (es rest : List Keyed) (start count until : ℕ) (pid : ℕ) (old new : List Lent) (lent : Lent) (whole : List Share) → rest ≡ drop start es → until ≡ start + count → IsWalking page low rs rest k
       → (pid, Some end) ≡ child_with_end k (child_entries page) → AreCutAt cs (Some end) (take count rest) (drop count rest)
       → lent.pid ≡ pid → lent.keyed ≡ slice_range es start until → lent.reaching ≡ without_idle cs (Some end) (places_of (slice_range es start until)) rs → new ≡ old ++ lent ∷ [] → onward ≡ filter (reaches_at cs end) (rs ++ places_of (slice_range es start until))

@@ -31,7 +31,8 @@ const LEAST_PAGES: usize = 32;
 
 /// Returns, for each leaf that a command of the batch goes to, its page id and the places of these commands, from left
 /// to right. Leaves out scans and wipes that find nothing: if a wipe deletes all of a leaf and the batch puts nothing
-/// into it, later scans and wipes do not visit it again. A scan with a closer end goes to no leaf at or after that end.
+/// into it, later scans and wipes that begin in an earlier leaf do not visit it. A scan with a closer end goes to no
+/// leaf at or after that end.
 ///
 /// Sorts the commands once and visits each index page on their way once. `workers` threads, including the caller's,
 /// share a long batch; the sort uses as many threads as there are processors. With one worker no thread is started. The

@@ -1,5 +1,5 @@
-//! Routing: which commands of a batch go to which page. Other crates name items by this root, and laws by the public
-//! module `laws`.
+//! Routing: which commands of a batch go to which page. Other crates import items from this root, and laws from the
+//! public module `laws`.
 #![tactic(auto)]
 
 mod batch;

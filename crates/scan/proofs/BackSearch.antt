@@ -49,7 +49,7 @@ alike_by true hi k e h o n = sym (and_true (is_before hi e)) ∙ n
 alike_by false hi k e h o n = before_lower hi k e o h
 
 module _ {V : Type 0} where
-  -- ---- what a leaf's lists name
+  -- ---- the keys of a leaf's lists
 
   -- if no list has a pair that passes, the leaf has none
   none_of_lists : (test : List ℕ → Bool) (p : Layers V) → IsInOrder p → AllByRecursion (λ run. passing test run ≡ []) p.runs → passing test p.base ≡ [] → passing test (entries_of p) ≡ []
@@ -130,7 +130,7 @@ module _ {V : Type 0} where
   own_by : (hi : Option (List ℕ)) (e : List ℕ × V) (es : List (List ℕ × V)) → EndsWith e (before hi es) → is_before hi e.0 ≡ true
   own_by hi e es n = (all_apart (λ f. is_before hi f.0 ≡ true) n.rest (e ∷ []) (subst (λ (x : List (List ℕ × V)). AllByRecursion (λ f. is_before hi f.0 ≡ true) x) n.parts (before_pass hi es))).1.0
 
--- ---- the greatest key that lists name
+-- ---- the greatest key of lists
 
 abbrev Run : Type 0 → Type 0
 Run V = List (List ℕ × Option V)
@@ -158,7 +158,7 @@ module _ {V : Type 0} where
     abbrev With : Run V → Layers V → Layers V
     With run below = record { runs = run ∷ below.runs; base = below.base }
 
-    -- a run that names none before the end
+    -- a run with no key before the end
     pub run_names_none : (p below : Layers V) (run : Run V) (X : Type 0) (f : X → List ℕ) (o : Option X) → p ≡ With run below → before hi run ≡ [] → MatchOption o (NamesNone hi below) (λ x. AreNamedUpTo (f x) hi below) → MatchOption o (NamesNone hi p) (λ x. AreNamedUpTo (f x) hi p)
     run_names_none p below run X f None e z n = subst (λ (q : Layers V). NamesNone hi q) (sym e) (record { runs = (z, n.runs); base = n.base })
     run_names_none p below run X f (Some x) e z n =

@@ -90,7 +90,7 @@ module _ (ps : List (ℕ × PageOfKind)) where
       ap (λ (x : List ℕ). leaves_under ps n qs ++ x) (before-push n m path pids (omega arith))
       ∙ sym (append_assoc (leaves_under ps n qs) (leaves_before ps n path) (leaves_under ps m pids))
 
-  -- ---- a page on the way
+  -- ---- a page on the path
 
   -- at an index page, the descent continues at the last of the children that are retained; there is at least one
   pub record IsStepBack (n : ℕ) (hi : Option (List ℕ)) (pid : ℕ) (kept : List ℕ) : Type 0 where

@@ -203,7 +203,7 @@ lacks m cs = λ low end h. most_after_all (λ k. is_within low (Some end) k) m c
 
 -- ---- a leaf's share
 
--- of a leaf from its low key on, what it has at least, less the keys that are deleted there
+-- of a leaf from its low key on: its least number of entries, less the keys that are deleted there
 pub some_certain : (lo low end : List ℕ) (taken : Deletions) (m n es : Pairs) (fewest gone left : ℕ) → is_below low lo ≡ false → is_below low end ≡ true → IsUntouched low end taken.1 → LacksAtMost taken m n → es ≡ in_range low (Some end) m → fewest ≤ length es
     → count_within low end taken.0 ≤ gone → left ≡ fewest - gone → AreCertain lo n low end left
 some_certain lo low end taken m n es fewest gone left b h w l e f c s =
@@ -212,7 +212,7 @@ some_certain lo low end taken m n es fewest gone left b h w l e f c s =
     let sum = between (λ e. is_below e.0 lo) (λ e. is_below e.0 low) (λ e. is_below e.0 end) n (λ e q. below_higher e.0 lo low b q) (λ e q. below_through e.0 low end q h) in
     omega (arith, here, lack, sum, f, c, s)
 
--- and certainly none, at least
+-- and none at least
 none_here : (lo low end : List ℕ) (n : Pairs) → is_below low lo ≡ false → is_below low end ≡ true → AreCertain lo n low end 0
 none_here lo low end n b h =
     let sum = between (λ e. is_below e.0 lo) (λ e. is_below e.0 low) (λ e. is_below e.0 end) n (λ e q. below_higher e.0 lo low b q) (λ e q. below_through e.0 low end q h) in
@@ -273,7 +273,7 @@ module _ (lo : List ℕ) where
       let parts : keyed_below lo (c ∷ cs) ≡ keyed_below lo ((c.0, c.1) ∷ []) + keyed_below lo cs = front_by (is_below c.0 lo) c (Below cs) in
       omega (arith, one, rest, parts)
 
-  -- no more entries are below a key than are named below it
+  -- a leaf has at most as many entries below a key as its lists have keys below it
   pub entries_below : (runs : List (List (List ℕ × Option (List ℕ)))) (base : Pairs) → length (Below (entries_under runs base)) ≤ named_below_under lo runs base
   entries_below [] base = omega arith
   entries_below (run ∷ runs) base =
@@ -310,7 +310,7 @@ module _ (lo : List ℕ) where
   parted_range low end (e ∷ m) =
       parted_by (is_within low (Some end) e.0) (is_below e.0 lo) (is_below e.0 end) e (in_range low (Some end) m) (in_range lo (Some end) m) refl (before_by (is_below e.0 low) (is_below e.0 end)) (parted_range low end m)
 
--- a scan that begins within the leaf has what the leaf has at least, less what it names below the scan, and what is deleted
+-- a scan that begins within the leaf has at least the entries of the leaf, less the keys of its lists below the scan, and less the deleted ones
 pub after_certain : (lo low end : List ℕ) (taken : Deletions) (m n : Pairs) (p : Layers (List ℕ)) (fewest most named gone left : ℕ) → is_below low lo ≡ true → IsUntouched lo end taken.1 → LacksAtMost taken m n → entries_of p ≡ in_range low (Some end) m
     → fewest ≤ length (entries_of p) → fewest ≤ most → named ≡ min (named_below lo p) most → count_within lo end taken.0 ≤ gone → left ≡ (fewest - named) - gone → AreCertain lo n low end left
 after_certain lo low end taken m n p fewest most named gone left b w l e f u s g r =
@@ -322,7 +322,7 @@ after_certain lo low end taken m n p fewest most named gone left b w l e f u s g
     let nothing : length (in_range lo (Some low) n) ≡ 0 = ap (λ (x : Pairs). length x) (none_in_range n lo low (not_below_lower low lo (below_is_less low lo b))) in
     omega (arith, lack, parts, below, whole, named_there, nothing, f, u, s, g, r)
 
--- and certainly none, at least
+-- and none at least
 none_after : (lo low end : List ℕ) (n : Pairs) → is_below low lo ≡ true → AreCertain lo n low end 0
 none_after lo low end n b =
     let nothing : length (in_range lo (Some low) n) ≡ 0 = ap (λ (x : Pairs). length x) (none_in_range n lo low (not_below_lower low lo (below_is_less low lo b))) in

@@ -144,7 +144,7 @@ module _ {V : Type 0} where
   neither None older h = (refl, h)
   neither (Some x) older h = absurd (cc)
 
-  -- nothing below k is named
+  -- no list has a key below k
   abbrev NamesNoneBelow : List ℕ → List (List ℕ × Option V) → Type 0
   NamesNoneBelow k cs = (q : List ℕ) → is_below q k ≡ true → value_at q cs ≡ None
 

@@ -60,9 +60,9 @@ module _ (ps : List (ℕ × PageOfKind)) where
       let h = t.height in
       record { level = t.level; height = omega (arith, h); known = t.known; below = (a.0, t.below) }
 
-  -- ---- a page on the way
+  -- ---- a page on the path
 
-  -- at an index page, the way continues to the first of the children that are kept; there is one
+  -- at an index page, the descent continues at the first of the children that are kept; there is one
   pub record IsStep (n : ℕ) (key : List ℕ) (pid : ℕ) (kept : List ℕ) : Type 0 where
     pub level : ℕ
     pub height : suc level ≡ n

@@ -184,7 +184,7 @@ wiped_nothing ranges lo hi old b w s = record {
   few = longer ranges (lo, Some hi) s;
 }
 
--- the same for borrowed tallies and keys
+-- the same for borrowed rank counters and keys
 pub wiped_above_lent : (ranges : List Bounds) (lo lent_lo : Key) (hi : Option Key) (old : Tallies) (deleted lower upper new : RankCounter) → old ≡ (deleted, lower, upper) → lent_lo ≡ lo → hi ≡ None → IsNotedIn lent_lo lower new → AreWiped ranges old → Contains old.1.0 lo
     → length ranges < 2 ^ 64 - 1 → AreWiped (ranges ++ (lo, hi) ∷ []) (deleted, new, upper)
 wiped_above_lent ranges lo lent_lo hi old deleted lower upper new e l h n w k s =

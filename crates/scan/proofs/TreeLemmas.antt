@@ -56,7 +56,7 @@ module _ (ps : List (ℕ × PageOfKind)) where
   leaves-append n xs ys =
       ap (λ (x : List ℕ). map (leaf_at ps) x) (leaves_under-append ps n xs ys) ∙ map-append (leaf_at ps) (leaves_under ps n xs) (leaves_under ps n ys)
 
-  -- a page n levels above the leaves: the leaves below it tile its range, and so it is with each of its children
+  -- a page n levels above the leaves: the leaves below it tile its range, and the same holds for each of its children
   abbrev pub IsSubtree : ℕ → Place → Type 0
   IsSubtree zero at =
       (page_at ps at.pid ≡ Some (Leaf (as_leaf (page_at ps at.pid)))) × Tiled (leaves zero (at.pid ∷ [])) at.end × ((x : Option (List ℕ)) → next_low (leaves zero (at.pid ∷ [])) x ≡ Some at.low)

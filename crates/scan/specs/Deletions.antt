@@ -1,4 +1,4 @@
--- Tallies of the keys and the bounds of ranges that commands delete.
+-- Rank counters of the keys and of the bounds of the ranges that commands delete.
 use Rattle.std.specs.Prelude.{◌≡◌, ◌-◌, ◌^◌, ◌≤◌, List, flat_map, map, length, Contains, Option, option_to_list}
 use Rattle.std.specs.List.{AllByRecursion, filter}
 use Rattle.std.specs.List.Sorted.{IsPermutation}
@@ -34,7 +34,7 @@ all_upper cs = flat_map upper_by cs
 abbrev pub filled : List (Bytes × Option Bytes) → List (Bytes × Option Bytes)
 filled ranges = filter (λ range. is_before range.1 range.0) ranges
 
--- a tally of deleted keys, one of lower bounds, and one of upper bounds
+-- a rank counter of deleted keys, one of lower bounds, and one of upper bounds
 abbrev pub Tallies : Type 0
 Tallies = RankCounter × RankCounter × RankCounter
 

@@ -1,5 +1,5 @@
-//! The keys at which a batch's scans may end, since before them there are certainly as many rows as each may have. So a scan
-//! goes only to the leaves before its end, and not to each that its range meets.
+//! The keys at which a batch's scans may end, because the tree certainly has as many rows before them as each scan may
+//! have. So a scan visits only the leaves before its end, and not every leaf of its range.
 ghost use Rattle.std.specs.Prelude.{◌≡◌, ◌≤◌, ◌&&◌, [], true, Some, map, min, IfOk, IfSome};
 ghost use Rattle.std.specs.Map.{keys_of};
 ghost use Rattle.std.specs.Option.{option_copied};
@@ -26,18 +26,18 @@ use std::alloc::{AllocError, Global};
 // A batch with at most this many scans and wipes may visit any number of leaves.
 const FEW_RANGES: usize = 16;
 
-/// Returns, for each command of the batch, the key at which its scan may end, if there is one: the low key of a leaf, before
-/// which the scan certainly finds as many pairs as its limit, on the map as it is at the scan's place in the batch. So the
-/// scan has the same rows if this key is its upper bound, and need not visit that leaf or any after it. The list is empty if
-/// the batch has no scan.
+/// Returns, for each command of the batch, the key at which its scan may end, if there is one: the low key of a leaf,
+/// before which the scan certainly finds as many pairs as its limit, on the map as it is at the scan's place in the
+/// batch. So the scan has the same rows if this key is its upper bound, and need not visit that leaf or any after it.
+/// The list is empty if the batch has no scan.
 ///
-/// Returns `None` if the batch has more than 16 scans and wipes, and these visit too many leaves, counting each leaf in the
-/// range of a wipe, and each leaf that a scan passes although none of its pairs certainly remain. The limit is four times the
-/// sum of the numbers of commands and pages.
+/// Returns `None` if the batch has more than 16 scans and wipes, and these visit too many leaves, counting each leaf in
+/// the range of a wipe, and each leaf that a scan passes although none of its pairs certainly remain. The limit is four
+/// times the sum of the numbers of commands and pages.
 ///
-/// For a scan, the time is that of one descent and a step for each leaf up to its end. A step does not read pairs: it takes
-/// binary searches in the keys that the batch deletes, and in the bounds of the ranges that it wipes. For a wipe, it is that
-/// of one descent and its leaves. Fails with `AllocError` if memory runs out.
+/// For a scan, the time is that of one descent and a step for each leaf up to its end. A step does not read pairs: it
+/// takes binary searches in the keys that the batch deletes, and in the bounds of the ranges that it wipes. For a wipe,
+/// it is that of one descent and its leaves. Fails with `AllocError` if memory runs out.
 pub fn scan_ends<'a>(
     alloc: Global,
     tree: &'a Tree<Global>,
@@ -61,8 +61,8 @@ pub fn scan_ends<'a>(
     all_ends(alloc, tree, commands, &mut taken, room)
 }
 
-// Returns how many leaves scans may visit in vain, after the wipes have visited theirs, or `None` if the wipes visit too many. Only the time
-// and memory that a batch takes depend on it.
+// Returns how many leaves scans may visit in vain, after the wipes have visited theirs, or `None` if the wipes visit
+// too many. This affects only the time and memory of a batch, never its result.
 fn room_for_scans(alloc: Global, tree: &Tree<Global>, commands: &[Command<Global>]) -> Option<usize>
     requires home { AreAllHome tree.now }
     requires height { tree.now.height ≤ most_levels }
@@ -143,8 +143,8 @@ fn has_few_ranges(commands: &[Command<Global>]) -> bool {
     count <= FEW_RANGES
 }
 
-// Returns the key at which each command may end, if it is a scan, or `None` if the scans visit more than `room` leaves
-// in vain. Before the first command nothing is deleted.
+// Returns the key at which each command may end, if it is a scan, or `None` if the scans visit `room` leaves or more in
+// vain. Before the first command nothing is deleted.
 fn all_ends<'a>(
     alloc: Global,
     tree: &'a Tree<Global>,

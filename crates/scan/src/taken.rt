@@ -11,8 +11,8 @@ use keys::{Command, Key, KeyRef, is_before};
 use std::alloc::{AllocError, Global};
 use std::marker::Model;
 
-/// What the commands before a place delete: single keys, and ranges that are wiped. Contracts see it as three tallies:
-/// of the deleted keys, of the lower bounds of the wiped ranges, and of their upper bounds.
+/// What the commands before a place delete: single keys, and ranges that are wiped. Contracts see it as three rank
+/// counters: of the deleted keys, of the lower bounds of the wiped ranges, and of their upper bounds.
 #[derive(Drop)]
 pub(crate) struct Deletions<'c> {
     deleted: RankCounter<'c>,

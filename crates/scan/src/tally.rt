@@ -29,7 +29,7 @@ impl<'c> Model for RankCounter<'c> {
 }
 
 impl<'c> RankCounter<'c> {
-    /// A tally in which no key is recorded.
+    /// A counter of these keys, none of which is recorded yet.
     pub(crate) fn new(alloc: Global, keys: Vec<KeyRef<'c>>) -> Result<Self, AllocError>
         ensures none { IfOk result (λ t. IsTally [] t) }
         ensures same { IfOk result (λ t. IsPermutation keys.entry.items t.0) }

@@ -92,7 +92,7 @@ module _ {V : Type 0} where
       ∙ ap (λ (es : List (List ℕ × V)). joined (placed_of f) ++ es) (joined-family_changes s used (i + length (fresh_of cs)) fs)
       ∙ sym (joined-placed_of f (flat fs))
 
-  -- ---- the first page keeps its name
+  -- ---- the first page keeps its separator
 
   replacements_begin : (used : List ℕ) (i : ℕ) (p : Placed V) (bs : List (List (List ℕ × V))) → 0 < length bs → names (replacements used i p bs) ≡ name p ∷ names (drop 1 (replacements used i p bs))
   replacements_begin used i p [] h = absurd (omega arith)
@@ -102,7 +102,7 @@ module _ {V : Type 0} where
   begins_by true s used i w ws = replacements_begin used i w.placed (cut s.fan (joined (placed_of (w ∷ ws)))) (cut_some s.fan (joined (placed_of (w ∷ ws))))
   begins_by false s used i w ws = refl
 
-  -- the first page that is made of a group has the name of its first member
+  -- the first page that is made of a group has the separator of its first member
   pub remade_begins : (s : Settings) (used : List ℕ) (i : ℕ) (w : Updated V) (ws : List (Updated V)) → names (remade s used i (w ∷ ws)) ≡ name w.placed ∷ names (drop 1 (remade s used i (w ∷ ws)))
   remade_begins s used i w ws = begins_by (is_rewritten (w ∷ ws)) s used i w ws
 

@@ -19,7 +19,7 @@ use Rattle.mapping.proofs.TileLemmas.{Separators}
 use Rattle.split_plan.specs.Terms.{absent, present, term_at}
 use Rattle.split_plan.proofs.Exchange.{Exchange, whole, others, terms_of}
 
--- ---- a part of rising names rises
+-- ---- a part of rising separators rises
 
 pub all_others : (P : List ℕ → Type 0) (part : Exchange → Separators) (xs : List Exchange) → AllByRecursion P (keys_of (whole part xs)) → AllByRecursion P (keys_of (others part xs))
 all_others P part [] a = tt
@@ -39,14 +39,14 @@ unfolding IsStrictlySortedBy
 rising-others part [] r = tt
 rising-others part (x ∷ xs) r = rising_others_by part xs (part x) (rising-others part xs) r.1
 
--- the first name, and the others without those that stay
+-- the first separator, and the others without those that stay
 rising_kept : (part : Exchange → Separators) (x : Exchange) (xs : List Exchange) → IsRising (whole part (x ∷ xs)) → IsRising (x.kept ∷ others part (x ∷ xs))
 unfolding IsStrictlySortedBy
 rising_kept part x xs r =
     let b = all_keys_apart (λ j. order x.kept.0 j ≡ Less) (part x) (whole part xs) r.0 in
     (all_keys-append (λ j. order x.kept.0 j ≡ Less) (part x) (others part xs) b.0 (all_others (λ j. order x.kept.0 j ≡ Less) part xs b.1), rising-others part (x ∷ xs) r)
 
--- ---- what joined names have at a key
+-- ---- the entry of concatenated separators at a key
 
 abbrev first_of : Option ℕ → Option ℕ → Option ℕ
 first_of None b = b
@@ -65,11 +65,11 @@ first_none : (m n : Option ℕ) → first_of m n ≡ None → n ≡ None
 first_none None n h = h
 first_none (Some v) n h = absurd (cc)
 
--- a key of the first name isn't named after it
+-- the key of the first separator does not occur after it
 none_after : (x : List ℕ × ℕ) (ns : Separators) (q : List ℕ) → is_eq (order q x.0) ≡ true → IsRising (x ∷ ns) → value_at q ns ≡ None
 none_after x ns q e r = value_at_rest x ns q r ∙ ap (λ (b : Bool). cond b None (value_at q (x ∷ ns))) e
 
--- and one that the first part has isn't named in the second
+-- and a key of the first part does not occur in the second
 not_in_both_by : (b : Bool) (x : List ℕ × ℕ) (xs ys : Separators) (q : List ℕ) (v : ℕ) → is_eq (order q x.0) ≡ b → IsRising (x ∷ (xs ++ ys)) → (IsRising (xs ++ ys) → value_at q xs ≡ Some v → value_at q ys ≡ None) → cond b (Some x.1) (value_at q xs) ≡ Some v → value_at q ys ≡ None
 not_in_both_by true x xs ys q v e r ih h = first_none (value_at q xs) (value_at q ys) (sym (value_at-append q xs ys) ∙ none_after x (xs ++ ys) q e r)
 not_in_both_by false x xs ys q v e r ih h = ih (rising_rest x (xs ++ ys) r) h
@@ -78,9 +78,9 @@ not_in_both : (xs ys : Separators) (q : List ℕ) (v : ℕ) → IsRising (xs ++ 
 not_in_both [] ys q v r h = absurd (cc)
 not_in_both (x ∷ xs) ys q v r h = not_in_both_by (is_eq (order q x.0)) x xs ys q v refl r (λ s g. not_in_both xs ys q v s g) h
 
--- ---- what the names after have at a key
+-- ---- the entry of the separators after at a key
 
--- what comes, else nothing where something goes, else what was there
+-- the new one; else nothing, if one was removed; else the old one
 abbrev exchanged : Option ℕ → Option ℕ → Option ℕ → Option ℕ
 exchanged (Some v) went old = Some v
 exchanged None (Some v) old = None
@@ -139,11 +139,11 @@ rising-cells cell ns r = rw (keys_of-map_values cell ns) r
 pub all_keys-cells : {Y : Type 0} (P : List ℕ → Type 0) (cell : ℕ → Y) (ns : Separators) → AllByRecursion P (keys_of ns) → AllByRecursion P (keys_of (map (λ n. (n.0, cell n.1)) ns))
 all_keys-cells P cell ns a = rw (keys_of-map_values cell ns) a
 
--- absences with new names over them rise
+-- absences overlaid with new separators rise
 pub rising-with_present : (gone come : Separators) → IsRising gone → IsRising (with_run (absent gone) (present come))
 rising-with_present gone come r = rising-with_run (absent gone) (present come) (rising-cells (λ v. None) gone r)
 
--- and name none but those
+-- and have no other keys
 pub all_keys-with_present : (P : List ℕ → Type 0) (gone come : Separators) → AllByRecursion P (keys_of gone) → AllByRecursion P (keys_of come) → AllByRecursion P (keys_of (with_run (absent gone) (present come)))
 all_keys-with_present P gone come a b =
     all_keys-with_run P (absent gone) (present come) (all_keys-cells {Y = Option ℕ} P (λ v. None) gone a) (all_keys-cells {Y = Option (Option ℕ)} P (λ v. Some (Some v)) come b)
@@ -156,14 +156,14 @@ term_by (Some v) went = refl
 term_by None (Some v) = refl
 term_by None None = refl
 
--- what absences with new names over them say of a key
+-- the change of a key in absences overlaid with new separators
 pub value_at-with_present : (q : List ℕ) (gone come : Separators) → IsRising gone → IsRising come → value_at q (with_run (absent gone) (present come)) ≡ term_at (value_at q come) (value_at q gone)
 value_at-with_present q gone come r s =
     value_at-with_run (absent gone) (present come) q (rising-cells (λ v. None) gone r) (rising-cells (λ v. Some (Some v)) come s)
     ∙ same_said (lookup-map_values (λ v. Some (Some v)) (λ j. is_eq (order q j)) come) (lookup-map_values (λ v. None) (λ j. is_eq (order q j)) gone)
     ∙ term_by (value_at q come) (value_at q gone)
 
--- the terms turn the names before into the names after
+-- the terms turn the separators before into the separators after
 pub terms_exchange : (xs : List Exchange) → IsRising (whole (λ x. x.gone) xs) → IsRising (whole (λ x. x.come) xs) → with_run (whole (λ x. x.gone) xs) (terms_of xs) ≡ whole (λ x. x.come) xs
 terms_exchange xs r s =
     let old : Separators = whole (λ x. x.gone) xs in

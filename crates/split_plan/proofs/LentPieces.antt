@@ -112,7 +112,7 @@ module _ {V : Type 0} (taken : PageOfKind → Page V) where
   remade_is s [] first low es f h j = absurd (cc)
   remade_is s (m ∷ ms) first low es f h j = let e : first ≡ m = cc in rw (h, e, j) refl
 
--- ---- pages of names
+-- ---- pages of separators
 
 module _ {V : Type 0} where
   pub all_done : (es done : List (List ℕ × V)) (n : ℕ) → length es ≤ n → done ++ drop n es ≡ es → done ≡ es

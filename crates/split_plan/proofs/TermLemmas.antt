@@ -34,7 +34,7 @@ module _ {V : Type 0} where
   exchanges s used i [] = []
   exchanges s used i (g ∷ gs) = exchange g (remade s used i g) ∷ exchanges s used (i + length (drop 1 (remade s used i g))) gs
 
-  -- the names before are those of the groups' members
+  -- the separators before are those of the groups' members
   names_before : (s : Settings) (used : List ℕ) (i : ℕ) (gs : List (List (Updated V))) → AllFull gs → whole (λ x. x.gone) (exchanges s used i gs) ≡ names (placed_of (flat gs))
   names_before s used i [] h = refl
   names_before s used i ([] ∷ gs) h = absurd (let z : 0 < 0 = h.0 in omega arith)
@@ -43,7 +43,7 @@ module _ {V : Type 0} where
       ap (λ (ns : Separators). name w.placed ∷ (names (placed_of ws) ++ ns)) (names_before s used j gs h.1)
       ∙ ap (λ (ns : Separators). name w.placed ∷ ns) (sym (ap (λ (ps : List (Placed V)). names ps) (placed_of-append ws (flat gs)) ∙ names-append (placed_of ws) (placed_of (flat gs))))
 
-  -- the names after are those of the pages that are made of them
+  -- the separators after are those of the pages that are made of them
   names_after : (s : Settings) (used : List ℕ) (i : ℕ) (gs : List (List (Updated V))) → AllFull gs → whole (λ x. x.come) (exchanges s used i gs) ≡ names (new_of (changes s used i gs))
   names_after s used i [] h = refl
   names_after s used i ([] ∷ gs) h = absurd (let z : 0 < 0 = h.0 in omega arith)
@@ -83,7 +83,7 @@ module _ {V : Type 0} where
   after_family : (s : Settings) (used : List ℕ) (i : ℕ) (f : List (Updated V)) → whole (λ x. x.come) (exchanges s used i (groups is_thin f)) ≡ names (new_of (changes s used i (groups is_thin f)))
   after_family s used i f = names_after s used i (groups is_thin f) (groups_full is_thin f)
 
-  -- the terms turn the names of a family into those of the pages that are made of it
+  -- the terms turn the separators of a family into those of the pages that are made of it
   pub with_run-terms : (s : Settings) (used : List ℕ) (i : ℕ) (f : List (Updated V)) (end : Option (List ℕ)) → 0 < s.fan → Tiled (placed_of f) end → with_run (names (placed_of f)) (terms (changes s used i (groups is_thin f))) ≡ names (new_of (changes s used i (groups is_thin f)))
   with_run-terms s used i f end z h =
       let gs : List (List (Updated V)) = groups is_thin f in
@@ -135,7 +135,7 @@ module _ {V : Type 0} where
 
   -- ---- all families of a level
 
-  -- the names of a level, taken apart as the entries of its first parent and of the others
+  -- the separators of a level, split into the entries of its first parent and of the others
   pub names_apart : (es fs : Separators) (ws : List (Updated V)) → es ++ fs ≡ names (placed_of ws) → (es ≡ names (placed_of (take (length es) ws))) × (fs ≡ names (placed_of (drop (length es) ws)))
   names_apart [] fs ws e = (refl, e)
   names_apart (n ∷ es) fs [] e = absurd (cc)

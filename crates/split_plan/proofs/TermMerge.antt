@@ -34,7 +34,7 @@ stays_in_front k o run (n ∷ ns) a =
 
 -- ---- the three ways to take the first term
 
--- the first freed name is below every fresh one
+-- the first freed separator is below every fresh one
 pub freed_first : (freed fresh ns : Separators) (n : List ℕ × ℕ) → IsRising fresh → freed ≡ n ∷ ns → Less ≡ front_order freed fresh → with_run (absent freed) (present fresh) ≡ (n.0, None) ∷ with_run (absent ns) (present fresh)
 unfolding IsStrictlySortedBy
 freed_first [] fresh ns n r e h = absurd (cc)
@@ -44,7 +44,7 @@ freed_first (f ∷ fs) (m ∷ ms) ns n r e h =
     let t : fs ≡ ns = cc in
     rw (← s, ← t) (stays_in_front f.0 None (absent fs) (m ∷ ms) (sym h, below_all f.0 m.0 (keys_of ms) (sym h) r.0))
 
--- the first fresh name is below every freed one
+-- the first fresh separator is below every freed one
 fresh_alone : (freed ms : Separators) (m : List ℕ × ℕ) → IsRising (m ∷ ms) → Greater ≡ front_order freed (m ∷ ms) → with_run (absent freed) (present (m ∷ ms)) ≡ (m.0, Some m.1) ∷ with_run (absent freed) (present ms)
 unfolding IsStrictlySortedBy
 fresh_alone [] ms m r h = stays_in_front m.0 (Some m.1) [] ms r.0
@@ -67,7 +67,7 @@ fresh_replaces [] fresh ms m r e h = absurd (cc)
 fresh_replaces (f ∷ fs) [] ms m r e h = absurd (cc)
 fresh_replaces (f ∷ fs) (c ∷ cs) ms m r e h = let s : c ≡ m = cc in let t : cs ≡ ms = cc in rw (← s, ← t) (both_first f c fs cs r (sym h))
 
--- the name in front, by its parts
+-- the first separator, by its parts
 pub front_is : (ns rest : Separators) (n m : List ℕ × ℕ) → n ≡ m → ns ≡ m ∷ rest → ns ≡ n ∷ rest
 front_is ns rest n m e h = rw e h
 
@@ -76,7 +76,7 @@ pub rising_left : (ns : Separators) → IsRising ns → IsRising (drop 1 ns)
 rising_left [] r = r
 rising_left (n ∷ ns) r = rising_rest n ns r
 
--- ---- what the order of the first names says of the lists
+-- ---- the consequences of the order of the first separators for the lists
 
 pub some_freed : (freed fresh : Separators) → length freed ≡ 0 → Less ≡ front_order freed fresh → ⊥
 some_freed [] fresh e h = absurd (cc)

@@ -48,7 +48,7 @@ module _ {X : Type 0} where
   }
 
 module _ {V : Type 0} where
-  -- what holds of the keys that a page names, and of a run's, holds of those that the page names after the run
+  -- what holds for the keys of a page and of a run holds for the keys of the page after the run
   pub all_named-updated : (P : List ℕ → Type 0) (s : Settings) (p : Placed V) (run : List (List ℕ × Option V)) → AllByRecursion P (keys_of run) → AllByRecursion P (named p.page) → AllByRecursion P (named (updated s p run).placed.page)
   all_named-updated P s p run a b =
       all_keys P (said (updated s p run).placed.page) (all_said-after_run (λ (c : List ℕ × Option V). P c.0) s p.page.layers run (all_keyed P run a) (all_keyed P (said p.page) b))

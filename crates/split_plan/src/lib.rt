@@ -2,7 +2,7 @@
 //! run for the parent.
 //!
 //! `specs/` defines how entries are split, how children are grouped, which pages replace a group, and the terms for its
-//! parent. Other crates name items by this root, and laws by the public module `laws`.
+//! parent. Other crates import items from this root, and laws from the public module `laws`.
 #![tactic(auto)]
 
 mod cutting;

@@ -104,7 +104,7 @@ module _ (s : Settings) (t : Tree) where
 
 -- ---- where a walk stops
 
--- an Err owes nothing that an Ok promises
+-- an Err need not satisfy what an Ok promises
 pub owes_nothing : {T : Type 0} (r : Result T Fault) (P : T → Type 0) → IsErr r → IfOk r P
 owes_nothing (Ok x) P is = absurd (false≢true is)
 owes_nothing (Err f) P is = tt

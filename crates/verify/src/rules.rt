@@ -8,7 +8,7 @@ pub(crate) const WRONG_KIND: u32 = 3;
 pub(crate) const LOW_KEY: u32 = 4;
 /// A key of the page lies outside its range.
 pub(crate) const RANGE: u32 = 5;
-/// The page has too many entries, or an empty run, or a key or value that is too long.
+/// The base or a run has too many entries, a run is empty, or a key or a value is too long.
 pub(crate) const SIZES: u32 = 6;
 /// The page has too many runs.
 pub(crate) const DEPTH: u32 = 7;

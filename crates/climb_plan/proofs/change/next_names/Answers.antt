@@ -5,7 +5,7 @@ use Rattle.climb_plan.proofs.ChangedNames.{joined_more, after_more}
 use Rattle.climb_plan.proofs.change.next_names.Goals.{else-loop-list-test, then-loop-list-test+in_default}
 use Rattle.climb_plan.proofs.change.next_names.Goals as goal
 
--- if no list is to come, or none is left, all names are there
+-- if no list is to come, or none is left, all separators are there
 module _ {X : Type 0} where
   taken_none : (n : ℕ) → take {A = List X} n [] ≡ []
   taken_none zero = refl

@@ -4,6 +4,6 @@ use Rattle.std.specs.Slice.Iter.{iter_rest}
 use Rattle.climb_plan.specs.Rewriting.{named_pages}
 use Rattle.climb_plan.proofs.change.push_names.Given as goal
 
--- what is there, and the names of the remaining pages, is what was there and the names of all
+-- the present contents, followed by the separators of the remaining pages, are the first contents followed by the separators of all pages
 abbrev pub invariant-loop-page : goal.invariant-loop-page
 invariant-loop-page l = l.names.items ++ named_pages (iter_rest (zip_first l.page-iterator)) (iter_rest (zip_second l.page-iterator)) ≡ l.initial.names.items ++ named_pages l.pages l.pids

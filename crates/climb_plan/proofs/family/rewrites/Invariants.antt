@@ -3,7 +3,7 @@ use Rattle.climb_plan.specs.Rewriting.{all_seen, groups_seen, OfLevelSeen}
 use Rattle.climb_plan.proofs.RewritingLevel.{IsLeft}
 use Rattle.climb_plan.proofs.family.rewrites.Given as goal
 
--- the families before this place are dealt with
+-- the families before this place are done
 abbrev pub invariant-loop-low : goal.invariant-loop-low
 invariant-loop-low l = record {
   most : l.done ≤ length l.seen;

@@ -6,8 +6,8 @@ use Rattle.climb_plan.specs.Installing.{AreParentsHome, parent_held}
 use Rattle.climb_plan.proofs.Installing.{tree_taken}
 use Rattle.climb_plan.proofs.install.take_all.Given as goal
 
--- the remaining parents are at home; the jobs so far and the rest hold what all held; the rest, taken from the
--- tree now, is all taken from the tree before; and there is room for the rest
+-- the remaining parents are in the table; the jobs so far and the rest hold what all held; the rest, taken from the tree now, is all taken from the
+-- tree before; and there is room for the rest
 abbrev pub invariant-loop-pid : goal.invariant-loop-pid
 invariant-loop-pid l = record {
   home : AreParentsHome l.tree.table (map (λ t. t.0) (into_iter_items l.pid-iterator));

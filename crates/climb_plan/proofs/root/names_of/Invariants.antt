@@ -3,7 +3,7 @@ use Rattle.std.specs.Prelude.{vec_capacity}
 use Rattle.climb_plan.specs.Rewriting.{named_pages}
 use Rattle.climb_plan.proofs.root.names_of.Given as goal
 
--- the names so far, and those of the pages from the place on, are those of all pages; and there is room for the rest
+-- the separators so far, and those of the pages from the place on, are those of all pages; and there is room for the rest
 abbrev pub invariant-loop-at : goal.invariant-loop-at
 invariant-loop-at l = record {
   made : l.names.items ++ named_pages (drop l.at l.pages) (drop l.at l.pids) ≡ named_pages l.pages l.pids;

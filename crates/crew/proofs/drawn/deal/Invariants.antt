@@ -2,7 +2,7 @@ use Rattle.std.proofs.Common.{◌≡◌, ◌+◌, ◌≤◌, ◌++◌, [], map, 
 use Rattle.std.specs.List.{AllByRecursion}
 use Rattle.crew.proofs.drawn.deal.Given as goal
 
--- the passes that are dealt, and those on the list, its top first, are all
+-- the passes that were handed out, and those on the list, its top first, are all passes
 abbrev pub invariant-loop-pass : goal.invariant-loop-pass
 invariant-loop-pass g l = record {
   passes : map (λ hand. hand.pass) l.hands.items ++ reverse l.passes.items ≡ reverse l.initial.passes.items;

@@ -2,7 +2,7 @@ use Rattle.std.proofs.Common.{◌≡◌, ◌≤◌, [], length, map, replicate, 
 use Rattle.crew.specs.Marks.{hand_by}
 use Rattle.crew.proofs.progress.empty_hands.Given as goal
 
--- the hands so far hold nothing
+-- the worker states so far are empty
 abbrev pub invariant-loop : goal.invariant-loop
 invariant-loop l = record {
   room : l.workers ≤ vec_capacity l.hands;

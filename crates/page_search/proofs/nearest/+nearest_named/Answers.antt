@@ -82,7 +82,7 @@ returns-in_default-clause-least g t c =
 pub returns-in_default-clause-kept : goal.returns-in_default-clause-kept
 returns-in_default-clause-kept g t c = c.in_ok-at.ensures.kept
 
--- ---- a run that names no key on this side
+-- ---- a run that contains no key on this side
 
 pub returns-in_default-nearest_place-clause-cost : goal.returns-in_default-nearest_place-clause-cost
 returns-in_default-nearest_place-clause-cost g t c =

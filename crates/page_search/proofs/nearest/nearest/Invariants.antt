@@ -6,9 +6,8 @@ use Rattle.page_search.specs.Nearest.{named_by, IsNearest, count_passed}
 use Rattle.page_search.proofs.NearestLemmas.{count_named}
 use Rattle.page_search.proofs.nearest.nearest.Given as goal
 
--- The entry that is nearest to the bound on the side that is left is the one that is looked for. The way to it from the bound may
--- take what the whole way may, less what was compared, and if a key is held that is the nearest one named, no walk is done
--- yet.
+-- The nearest entry from the present bound on is the nearest entry from the first key on. The remaining search may cost as much as the whole search
+-- may, less the comparisons so far. If the page holds the nearest key of its lists, no pass has been completed yet.
 abbrev pub invariant-loop-found : goal.invariant-loop-found
 invariant-loop-found g l = record {
   same : (x : Option (List ℕ × g.row.V.Denot)) → IsNearest l.side l.bound (holds l.lists) x → IsNearest l.fn.side l.key (holds l.lists) x;

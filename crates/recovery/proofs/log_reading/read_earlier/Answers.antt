@@ -107,7 +107,7 @@ returns-in_err-segments-clause-uncounted g c =
     err_on c.from_residual.result (IsUncounted (failed c.args.disk.now) (failed c.read_whole.new.disk)) c.in_err-segments.field-0.0 c.from_residual.ensures.1
     (λ other. c.in_err-segments.ensures.uncounted other ∙ c.loop-first.invariant.counted)
 
--- these were not taken
+-- these were not scanned
 pub returns-in_err-take-clause-read : goal.returns-in_err-take-clause-read
 returns-in_err-take-clause-read g c w file is none =
     let t = c.args.ends.now in

@@ -7,7 +7,7 @@ use Rattle.routing.proofs.SortLemmas.{places_of_sorted, keyed_sorted}
 use Rattle.routing.proofs.sort.sorted_places.Given as given
 use Rattle.routing.proofs.sort.sorted_places.Goals as goal
 
--- what the sort leaves is what is answered, and has what was there
+-- the result is the sorted list, which is a permutation of the list before
 sorted : (g : given.Over) (c : goal.After-keyed-3-1 g) → (let was = c.in_ok-keyed.keyed.items in let new = c.sort_keyed.new.keyed in IsPermutation was new × (take c.in_ok-keyed.keyed.len (new ++ drop (length new) was) ≡ new))
 sorted g c =
     let many : length c.sort_keyed.new.keyed ≡ c.in_ok-keyed.keyed.len = omega arith in

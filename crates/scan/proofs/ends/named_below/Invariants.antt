@@ -2,7 +2,7 @@ use Rattle.std.proofs.Common.{◌≡◌, ◌+◌, ◌-◌, ◌^◌, length, min}
 use Rattle.scan.specs.Ends.{named_below}
 use Rattle.scan.proofs.ends.named_below.Given as goal
 
--- what was counted, and what the other lists name, are what all lists name
+-- the count so far, and the keys of the other lists, are the keys of all lists
 abbrev pub invariant-loop-run : goal.invariant-loop-run
 invariant-loop-run l = min (l.named + named_below l.key l.rest) (2 ^ 64 - 1) ≡ min (named_below l.key l.chain) (2 ^ 64 - 1)
 

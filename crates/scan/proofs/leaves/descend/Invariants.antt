@@ -2,7 +2,7 @@ use Rattle.std.proofs.Common.{◌≡◌, ◌++◌, length, pred, ◌-◌}
 use Rattle.scan.specs.Walk.{IsWalk, IsAt, walk_from, walk_left}
 use Rattle.scan.proofs.leaves.descend.Given as goal
 
--- the leaves that the way comes to from here, and those of the path, are those that it came to from the start
+-- the leaves that the descent reaches from here, and those of the path, are those that it reached from the start
 abbrev pub invariant-loop-page : goal.invariant-loop-page
 invariant-loop-page l = record {
   walk : IsWalk l.tree l.path;

@@ -2,7 +2,7 @@ use Rattle.std.proofs.Common.{arith}
 use Rattle.split_plan.proofs.TermMerge.{freed_first, fresh_first, fresh_replaces, front_is, rising_left, some_freed, some_fresh, none_left}
 use Rattle.split_plan.proofs.parent_run.next_term.Goals as goal
 
--- ---- nothing is taken out: but where both lists are empty, the order says that there is something
+-- ---- nothing is taken out: this is impossible, because the order says that a list is not empty
 
 pub returns-in_err-member-in-Less : goal.returns-in_err-member-in-Less
 returns-in_err-member-in-Less c = absurd (some_freed c.args.freed.now.items c.args.fresh.now.items (omega (arith, c.in_err-member-in-Less.ensures.cases.0)) c.in-Less.ensures)

@@ -4,7 +4,7 @@ use Rattle.delta_chain.specs.Layers.{with_run}
 use Rattle.split_plan.specs.Terms.{absent, present}
 use Rattle.split_plan.proofs.parent_run.terms.Given as goal
 
--- the terms so far, and those of the remaining names, are the terms of all
+-- the terms so far, and those of the remaining separators, are the terms of all
 abbrev pub invariant-loop-term : goal.invariant-loop-term
 invariant-loop-term l = record {
   freed_rises : IsRising l.gone.items;

@@ -24,7 +24,7 @@ returns-then-goes_last g c =
     let above : goes_last c.args.key.now c.in-Many.list.items ≡ true = cc in
     rw (← c.self.view_is, c.in-Many.is) (above_all c.in-Many.list.items c.args.key.now c.len.result rising above (c.len.ensures ∙ c.in-Many.list.ok.0))
 
--- the closure answers how an entry's key compares to the key
+-- the closure returns how an entry's key compares to the key
 pub returns-else-goes_last : goal.returns-else-goes_last
 returns-else-goes_last g c =
     let facts = c.binary_search_by.ensures in

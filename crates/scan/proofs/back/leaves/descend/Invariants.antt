@@ -4,7 +4,7 @@ use Rattle.scan.specs.Back.{walk_back, walk_before}
 use Rattle.scan.specs.Walk.{IsWalk, IsAt}
 use Rattle.scan.proofs.back.leaves.descend.Given as goal
 
--- the leaves before the path, and those that the way comes to from here, are those that it came to from the start
+-- the leaves before the path, and those that the descent reaches from here, are those that it reached from the start
 abbrev pub invariant-loop-page : goal.invariant-loop-page
 invariant-loop-page l = record {
   walk : IsWalk l.tree l.path;
