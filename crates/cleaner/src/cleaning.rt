@@ -4,13 +4,13 @@ ghost use Rattle.keys.specs.Bytes.{Bytes};
 ghost use Rattle.keys.specs.Limits.{first_bad_field};
 ghost use Rattle.mapping.specs.Tree.{Store};
 ghost use Rattle.flush_log.specs.AfterFlush.{store_after};
-ghost use Rattle.flush_log.specs.Disk.{IsSynced, Kept, Same, LeavesOnly, OnlyRead, CountsNoOther};
+ghost use Rattle.flush_log.specs.Disk.{IsSynced, Kept, Same, LeavesOnly, CountsNoOther};
 ghost use Rattle.flush_log.specs.Ends.{ends_of, ends_in, AreEnds};
 ghost use Rattle.flush_log.specs.Overlay.{AgreeAt};
 ghost use Rattle.flush_log.specs.Segments.{segments_begin, disk_size, last_segment};
 ghost use Rattle.flush_log.specs.Slot.{greatest};
 ghost use Rattle.recovery.specs.InStep.{IsInStep};
-ghost use Rattle.recovery.specs.Recovered.{IsReadOf, IsLate};
+ghost use Rattle.recovery.specs.Recovered.{IsReadOf, IsLate, OnlyReads};
 ghost use Rattle.recovery.specs.StoreOfDisk.{store_of_disk};
 ghost use Rattle.cleaner.specs.AfterClean.{slot_on_disk, after_clean};
 ghost use Rattle.cleaner.specs.Cleaned.{WouldClean, IsCleanFault, IsRefused, cleaned_slot, IsClean};
@@ -35,10 +35,7 @@ fn read_slot_on_disk<D: Disk>(disk: &mut D, sequence: u64) -> Result<Slot, Fault
         × AgreeAt (λ place. segments_begin ≤ place) file now
         × IfOk result (λ t. t ≡ slot_on_disk sequence now) }
     ensures err { IfErr result (IsLate (D.failed disk.old) (D.failed disk.new)) }
-    ensures kept { Kept (D.view disk.old) (D.view disk.new) }
-    ensures same { OnlyRead (D.view disk.old) (D.view disk.new) }
-    ensures counted { OnOk result (D.failed disk.new ≡ D.failed disk.old) }
-    ensures uncounted { CountsNoOther result (D.failed disk.old) (D.failed disk.new) }
+    ensures only_reads { OnlyReads D.view D.failed disk.old disk.new result }
 {
     let mut bytes = [0; SLOT_SIZE];
     read(disk, slot_place(sequence), &mut bytes)?;
@@ -84,10 +81,7 @@ fn plan<D: Disk>(
         ⊎ IsLate (D.failed disk.old) (D.failed disk.new) fault) }
     ensures limit { reading.new.limit ≡ reading.old.limit }
     ensures live { reading.new.live ≡ reading.old.live }
-    ensures kept { Kept (D.view disk.old) (D.view disk.new) }
-    ensures same { OnlyRead (D.view disk.old) (D.view disk.new) }
-    ensures counted { OnOk result (D.failed disk.new ≡ D.failed disk.old) }
-    ensures uncounted { CountsNoOther result (D.failed disk.old) (D.failed disk.new) }
+    ensures only_reads { OnlyReads D.view D.failed disk.old disk.new result }
 {
     let on_disk = read_slot_on_disk(disk, ends.sequence)?;
     let pages = reading.take(ends.head);
@@ -134,10 +128,7 @@ pub fn read_for_cleans<D: Disk>(
     ensures err { (file : Bytes) × IsReadOf (D.view disk.old) file ×
         ((st : Store) → ends_of st ≡ ends.now → st.version ≡ format.now.version →
         IfErr result (IsCleanFault format.now.settings st file (D.failed disk.old) (D.failed disk.new))) }
-    ensures kept { Kept (D.view disk.old) (D.view disk.new) }
-    ensures same { OnlyRead (D.view disk.old) (D.view disk.new) }
-    ensures counted { OnOk result (D.failed disk.new ≡ D.failed disk.old) }
-    ensures uncounted { CountsNoOther result (D.failed disk.old) (D.failed disk.new) }
+    ensures only_reads { OnlyReads D.view D.failed disk.old disk.new result }
 {
     let last = last_segment(&format.settings, ends.tail);
     if ends.head == last {

@@ -1,15 +1,17 @@
 -- What the relation of one step says in the clauses that its calls had before: no clause says less. `WasText` are those of `flush`, `upgrade`
 -- and `write`, `WasClean` those of `clean`, `WasStep` those of `step`.
 use Rattle.std.specs.Prelude.{◌≡◌, ◌≢◌, ◌⊎◌, ℕ, Bool, IsTrue, true, false, Result, Ok, Err, IfOk, IfErr, OnOk, OnErr, MatchResult}
-use Rattle.std.proofs.Common.{sym, ap, ◌∙◌, subst, inl, inr}
+use Rattle.std.proofs.Common.{refl, sym, ap, ◌∙◌, subst, inl, inr}
 use Rattle.std.specs.declared.alloc.Global.{Global}
-use Rattle.keys.specs.Bytes.{Bytes}
+use Rattle.keys.specs.Bytes.{Bytes, Pairs}
 use Rattle.keys.specs.declared.fault.Fault.{Fault}
 use Rattle.keys.specs.declared.fault.Fault.TheVariants.{BadCrew, Device, Failed}
 use Rattle.keys.specs.declared.settings.Settings.{Settings}
+use Rattle.mapping.specs.Levels.{contents}
 use Rattle.mapping.specs.Tree.{Store}
 use Rattle.flush_log.specs.Disk.{View, IsSynced, Kept, LeavesOnly, Same}
 use Rattle.flush_log.specs.FlushText.{HasFrames}
+use Rattle.flush_log.specs.NewStore.{disk_of_new}
 use Rattle.flush_log.specs.declared.text.CommitKind.{CommitKind}
 use Rattle.flush_log.specs.declared.text.CommitKind.TheVariants as texts
 use Rattle.flush_log.proofs.ViewLemmas.{weaker}
@@ -18,6 +20,8 @@ use Rattle.recovery.specs.StoreOfDisk.{and_then, store_of_disk}
 use Rattle.cleaner.specs.AfterClean.{after_clean}
 use Rattle.cleaner.specs.Cleaned.{IsCleanFault}
 use Rattle.engine.specs.Calls.{after_writing, IsLateInWriting, IsOwnText}
+use Rattle.engine.specs.Cleans.{IsDoneClean, IsRefusedClean}
+use Rattle.engine.specs.Copies.{IsCopied, IsCopyOn, IsLeftCopying, after_filling}
 use Rattle.engine.specs.OneStep.{Syncs, IsStep, step_by, answer_by}
 use Rattle.engine.specs.Plays.{IsLateInStep, IsLeftInStep, IsStepDone, IsStepFault, answer_of}
 use Rattle.engine.specs.State.{State, IsSound}
@@ -25,7 +29,8 @@ use Rattle.engine.specs.Steps.{Step, Answer, Stepped, NumbersFit, after_step, ba
 use Rattle.engine.specs.Steps.Step.{Clean}
 use Rattle.engine.specs.Steps.Answer.{Cleaned}
 use Rattle.engine.specs.declared.step.Answer as code_answer
-use Rattle.engine.proofs.OneStepLemmas.{shown_by, step_done, read_none, frames_by, undone_is, undone_counted, undone_same, store_stays}
+use Rattle.engine.specs.declared.step.Answer.TheVariants as answered
+use Rattle.engine.proofs.OneStepLemmas.{answered_on, refused_on, shown_by, step_done, read_none, frames_by, undone_is, undone_counted, undone_same, store_stays}
 use Rattle.engine.proofs.RefusedCalls.{refused_as}
 use Rattle.engine.proofs.TextSteps.{IsWritingFault, after_text_step}
 
@@ -291,3 +296,58 @@ module _ {D : Type 0} (view : D → View) (failures : D → ℕ) (able : Bool) (
     crash = is.crash;
     sound = is.sound;
   }
+
+-- ---- a clean by a reading
+
+module _ {D : Type 0} (view : D → View) (failures : D → ℕ) (old new : State D) where
+  pub done_clean : (head : ℕ) → IsDoneClean view failures old new head → WasStep view failures true Clean old (Ok (answered.Cleaned head)) new
+  done_clean head is =
+      step_as_before view failures true Clean old new (Ok (answered.Cleaned head))
+      (answered_on view failures true old new Clean (λ n. Cleaned n) answer_of Clean head (answered.Cleaned head) refl refl is)
+
+  pub refused_clean : (fault : Fault) → IsRefusedClean view failures old new fault → WasStep view failures true Clean old (Err fault) new
+  refused_clean fault (fine, is) =
+      step_as_before view failures true Clean old new (Err fault) (refused_on view failures true old new Clean (λ n. Cleaned n) answer_of Clean fault refl is)
+
+-- ---- a copy
+
+-- the clauses of `copy_to` about the copy
+pub record WasCopied {D : Type 0} (view : D → View) (failures : D → ℕ) (s : Settings) (all : Pairs Bytes) (disk : D) (result : Result (State D) (Fault × D)) : Type 0 where
+  pub back : IfErr result (λ e. Kept (view disk) (view e.1))
+  pub made : IfOk result (λ copy. (copy.settings ≡ s) × (copy.has_failed ≡ false))
+  pub holds : IfOk result (λ copy. contents copy.store.tree ≡ all)
+  pub exact : IfOk result (λ copy. IsCopied s all copy.store)
+  pub written : IsTrue (view disk).is_honest → IfOk result (λ copy. after_filling s all (disk_of_new s (view disk).seen) ≡ Ok (copy.store, (view copy.disk).seen))
+  pub kept : IfOk result (λ copy. Kept (view disk) (view copy.disk) × (failures copy.disk ≡ failures disk))
+  pub bytes : IsTrue (view disk).is_honest → IfOk result (λ copy. (store_of_disk (view copy.disk).seen ≡ Ok (s, copy.store)) × IsSynced (view copy.disk))
+  pub crash : IsSynced (view disk) → MatchResult result
+      (λ copy. LeavesOnly (view disk) (view copy.disk) (IsLeftCopying s all (view disk).seen))
+      (λ e. LeavesOnly (view disk) (view e.1) (IsLeftCopying s all (view disk).seen))
+  pub sound : IfOk result (λ copy. IsSound view copy)
+
+pub copy_as_before : {D : Type 0} (view : D → View) (failures : D → ℕ) (s : Settings) (all : Pairs Bytes) (disk : D) (result : Result (State D) (Fault × D))
+    → IsCopyOn view failures s all disk (disk_of_new s (view disk).seen) (IsLeftCopying s all (view disk).seen) result
+    → (IsTrue (view disk).is_honest → IfOk result (λ copy. IsSynced (view copy.disk)))
+    → WasCopied view failures s all disk result
+copy_as_before view failures s all disk (Ok copy) is is_synced = record {
+  back = is.back;
+  made = is.made;
+  holds = is.holds;
+  exact = is.exact;
+  written = is.written;
+  kept = is.kept;
+  bytes = λ honest. (is.bytes honest, is_synced honest);
+  crash = is.crash;
+  sound = is.sound;
+}
+copy_as_before view failures s all disk (Err e) is is_synced = record {
+  back = is.back;
+  made = tt;
+  holds = tt;
+  exact = tt;
+  written = λ _. tt;
+  kept = tt;
+  bytes = λ _. tt;
+  crash = is.crash;
+  sound = tt;
+}

@@ -21,7 +21,8 @@ use Rattle.recovery.proofs.ReadBytes.{kept_then}
 use Rattle.recovery.proofs.StoreLemmas.{ok-then}
 use Rattle.cleaner.specs.PagesRead.{PagesRead, IsReading}
 use Rattle.engine.specs.Cleaning.{BeginsFull, CleanRow, AreCleansBy, AreRows, IsCalmOn, IsCleanRefused, IsCleanRefusedOn, IsEarly, IsFlushedCleaning, IsFull, IsHeld, IsNoReading, IsOfBytes, IsOfMachine, IsOverfull, IsRow, IsStart, IsStoppedCleaning, IsWantOfRoom, IsWhole, NoneFollow, count_of, most_ahead, most_cleanable, row_length}
-use Rattle.engine.specs.Cleans.{cleans, AreCleaned, AreStopped, IsReadFor, IsOnlyRead, IsRefusedClean, IsCleanedOn, IsStoppedOn}
+use Rattle.engine.specs.Cleans.{cleans, AreCleaned, AreStopped, IsReadFor, IsRefusedClean, IsCleanedOn, IsStoppedOn}
+use Rattle.engine.specs.OneStep.{IsOnlyRead}
 use Rattle.engine.specs.Plays.{IsStepDone, IsStepFault, IsLeftInStep, answer_of}
 use Rattle.engine.specs.Room.{is_overfull, live_known}
 use Rattle.engine.specs.State.{State, IsSound}
@@ -30,6 +31,7 @@ use Rattle.engine.specs.Steps.Step.{Flush, Clean}
 use Rattle.engine.specs.Steps.Answer.{Flushed}
 use Rattle.engine.specs.declared.step.Answer as code_answer
 use Rattle.engine.specs.declared.step.Step.TheVariants as called
+use Rattle.engine.proofs.AsBefore.{refused_clean}
 use Rattle.engine.proofs.CleansLemmas.{none_cleaned, same_left, still_cleaned, one_stopped}
 use Rattle.engine.proofs.RowsLemmas.{calm_end, machine_or_refused, none_read, reads_before, reads_of, refused_end, rows_end}
 use Rattle.engine.proofs.PlayTurn.{stays, still_said, still_exact, goes_on, crash_on, refused_after}
@@ -403,17 +405,18 @@ module _ {D : Type 0} (view : D → View) (failures : D → ℕ) (lawful : (disk
               (λ full. absurd (cc)))
 
           by_refusal : IsRefusedClean view failures cur next why → IsStoppedCleaning view failures old next fault
-          by_refusal r =
+          by_refusal is_refused =
+              let r = refused_clean view failures cur next why is_refused in
               let seen = (view cur.disk).seen in
               let settings = r.rest.0 ∙ are.done.turn.settings in
               let as_honest = r.rest.1.honest ∙ are.done.turn.kept.honest in
               let same = λ (other : fault ≢ Device) (h : IsTrue honest). (r.same (here h) (want_other why fault want other)).seen in
               stopped_by next rows why fault seen false (λ e. absurd (cc)) (λ other h. sym (same other h))
-              (rows_end honest old.settings false old.store first rows cur.store next.store seen seen r.store (λ h. refl) are.are)
+              (rows_end honest old.settings false old.store first rows cur.store next.store seen seen r.unchanged (λ h. refl) are.are)
               (λ none. inr (are.calm none))
               (λ is. inr (inr (refused_end honest old.settings next.store next.store (view next.disk).seen seen refl (λ h. sym (same (full_device fault is) h))
-              (full_refused why fault want (machine_or_refused view failures lawful cur next why r) is settings as_honest))))
-              room want (λ file. inl (full_next r.store file)) (one_stopped view failures lawful old (count_of rows) cur are.done next why r)
+              (full_refused why fault want (machine_or_refused view failures lawful cur next why is_refused) is settings as_honest))))
+              room want (λ file. inl (full_next r.unchanged file)) (one_stopped view failures lawful old (count_of rows) cur are.done next why is_refused)
 
       module _ (r : PagesRead) (held : IsHeld view cur r) (roomy : is_overfull cur.settings cur.store r.live ≡ false) (left : ℕ) (some : 0 < left) (sum : count_of rows + left ≡ old.settings.segments)
           (n : ℕ) (many : 0 < n) (few : n ≤ most_cleanable cur.settings cur.store)

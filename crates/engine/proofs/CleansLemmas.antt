@@ -11,7 +11,8 @@ use Rattle.recovery.proofs.ReadBytes.{kept_then}
 use Rattle.recovery.proofs.StoreLemmas.{ok-then}
 use Rattle.cleaner.specs.AfterClean.{after_clean}
 use Rattle.cleaner.proofs.CleanBack.{cleaned-store}
-use Rattle.engine.specs.Cleans.{cleans, AreCleaned, AreStopped, IsOnlyRead, IsDoneClean, IsRefusedClean, IsCleanedOn, IsStoppedOn}
+use Rattle.engine.specs.Cleans.{cleans, AreCleaned, AreStopped, IsDoneClean, IsRefusedClean, IsCleanedOn, IsStoppedOn}
+use Rattle.engine.specs.OneStep.{IsOnlyRead}
 use Rattle.engine.specs.Plays.{IsStepDone, answer_of}
 use Rattle.engine.specs.State.{State, IsSound}
 use Rattle.engine.specs.Steps.{Step, Answer, Stepped}
@@ -20,6 +21,7 @@ use Rattle.engine.specs.Steps.Answer.{Cleaned as said_cleaned}
 use Rattle.engine.specs.declared.step.Answer as code_answer
 use Rattle.engine.specs.declared.step.Answer.TheVariants as answered
 use Rattle.engine.specs.declared.step.Step.TheVariants as called
+use Rattle.engine.proofs.AsBefore.{done_clean, refused_clean}
 use Rattle.engine.proofs.PlayTurn.{no_turn, turn_as, stays, still_said, still_exact, goes_on, crash_on, refused_after}
 
 -- ---- steps
@@ -57,7 +59,8 @@ clean_head honest s st seen a now bytes done =
 pub one_head : {D : Type 0} (view : D → View) (failures : D → ℕ) (cur next : State D) (head : ℕ) → IsDoneClean view failures cur next head → next.store.head ≡ cur.store.head + 1
 one_head view failures cur next head c =
     let a : code_answer.Answer = answered.Cleaned head in
-    let one = clean_head (view cur.disk).is_honest cur.settings cur.store (view cur.disk).seen a next.store c.step.0 c.step.1 in
+    let (bytes, done) = (done_clean view failures cur next head c).ok in
+    let one = clean_head (view cur.disk).is_honest cur.settings cur.store (view cur.disk).seen a next.store bytes done in
     omega (arith, one)
 
 -- ---- so far
@@ -80,27 +83,30 @@ module _ {D : Type 0} (view : D → View) (failures : D → ℕ) (lawful : (disk
     pub one_cleaned : (head : ℕ) → cur.has_failed ≡ false → IsDoneClean view failures cur next head → AreCleaned view failures old (suc count) next
     one_cleaned head fine c =
         let a : code_answer.Answer = answered.Cleaned head in
+        let was = done_clean view failures cur next head c in
         record {
           said = done.said ++ a ∷ [];
           turn = turn_as view failures old next (cleans count ++ Clean ∷ []) (cleans (suc count)) (done.said ++ a ∷ []) (done.said ++ a ∷ []) (one_more_clean count) refl
-              (goes_on view failures lawful old (cleans count) done.said cur done.turn next Clean a c.step c.rest c.counted fine c.bytes c.is_synced c.crash c.sound);
-          tree = clean_tree (view cur.disk).is_honest cur.settings cur.store (view cur.disk).seen a next.store c.step.0 c.step.1 ∙ done.tree;
+              (goes_on view failures lawful old (cleans count) done.said cur done.turn next Clean a was.ok was.rest was.counted fine was.bytes was.is_synced was.crash was.sound.1);
+          tree = clean_tree (view cur.disk).is_honest cur.settings cur.store (view cur.disk).seen a next.store was.ok.0 was.ok.1 ∙ done.tree;
         }
 
     -- one that was refused
     pub one_stopped : (fault : Fault) → IsRefusedClean view failures cur next fault → AreStopped view failures old next count fault
-    one_stopped fault r = record {
-      said = done.said;
-      played = still_said view failures lawful old (cleans count) done.said cur done.turn next r.store;
-      exact = still_exact view failures lawful old (cleans count) done.said cur done.turn next r.store;
-      tree = ap (λ (x : Store). x.tree) r.store ∙ done.tree;
-      sound = r.sound;
-      rest = (r.rest.0 ∙ done.turn.settings, kept_then (view old.disk) (view cur.disk) (view next.disk) done.turn.kept r.rest.1);
-      turn = λ other. stays view failures lawful old (cleans count) done.said cur done.turn next r.rest r.store (r.counted other) (λ honest. r.same honest other) r.sound;
-      device = r.device;
-      why = refused_after view failures lawful old (cleans count) done.said cur done.turn next called.Clean (failures next.disk) fault r.store r.why;
-      crash = λ fine was. crash_on view failures lawful old (cleans count) done.said cur done.turn next Clean r.crash fine was;
-    }
+    one_stopped fault is =
+        let r = refused_clean view failures cur next fault is in
+        record {
+          said = done.said;
+          played = still_said view failures lawful old (cleans count) done.said cur done.turn next r.unchanged;
+          exact = still_exact view failures lawful old (cleans count) done.said cur done.turn next r.unchanged;
+          tree = ap (λ (x : Store). x.tree) r.unchanged ∙ done.tree;
+          sound = r.sound.1;
+          rest = (r.rest.0 ∙ done.turn.settings, kept_then (view old.disk) (view cur.disk) (view next.disk) done.turn.kept r.rest.1);
+          turn = λ other. stays view failures lawful old (cleans count) done.said cur done.turn next r.rest r.unchanged (r.fine other) (λ honest. r.same honest other) r.sound.1;
+          device = λ device. (r.device device).0;
+          why = refused_after view failures lawful old (cleans count) done.said cur done.turn next called.Clean (failures next.disk) fault r.unchanged (r.refused is.0 refl);
+          crash = λ fine was. crash_on view failures lawful old (cleans count) done.said cur done.turn next Clean r.crash fine was;
+        }
 
   -- ---- further ones
 
@@ -109,7 +115,7 @@ module _ {D : Type 0} (view : D → View) (failures : D → ℕ) (lawful : (disk
 
   -- one that was refused, but not by its disk, as if it had only been read
   pub only_read : (cur next : State D) (fault : Fault) → fault ≢ Device → IsRefusedClean view failures cur next fault → IsOnlyRead view failures cur next
-  only_read cur next fault other r = record { rest = r.rest; store = r.store; counted = r.counted other; same = λ honest. r.same honest other; sound = r.sound }
+  only_read cur next fault other r = r.1.undone other
 
   pub none_on : (cur : State D) → IsCleanedOn view failures cur 0 cur
   none_on cur old count done = as_count old cur count (count + 0) (omega arith) done

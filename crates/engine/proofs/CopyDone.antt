@@ -98,19 +98,15 @@ settled_by : {D T : Type 0} (view : D → View) (text : List T) (old new : D) �
 settled_by {D = D} view [] old new same written is_synced = subst (λ (d : D). IsSynced (view d)) (sym (same refl)) is_synced
 settled_by view (f ∷ fs) old new same written is_synced = written (not_empty f fs)
 
--- what a flush leaves of a sound store on a settled disk: the disk stands for the store, and is settled
-filled : {D : Type 0} (view : D → View) (old now : State D) → IsSound view old → old.has_failed ≡ false → IsSynced (view old.disk)
+-- what a flush leaves of a sound store on an honest disk: the disk stands for the store
+filled : {D : Type 0} (view : D → View) (old now : State D) → IsSound view old → old.has_failed ≡ false → IsTrue (view old.disk).is_honest
     → HasFrames old.settings (texts.Flush old.store.version) old.store.tree
     → ((s : Settings) (st now : Store) (file bytes : Bytes) → IsStoreOf s st file → HasFrames s (texts.Flush st.version) st.tree → after_flush s st file ≡ Ok (now, bytes)
     → (store_of_disk bytes ≡ Ok (s, now)) × IsStoreOf s now bytes)
     → after_flush old.settings old.store (view old.disk).seen ≡ Ok (now.store, (view now.disk).seen)
-    → (flush_frames old.store.version old.store.tree ≡ [] → now ≡ old)
-    → (flush_frames old.store.version old.store.tree ≢ [] → IsSynced (view now.disk))
-    → (store_of_disk (view now.disk).seen ≡ Ok (old.settings, now.store)) × IsSynced (view now.disk)
-filled {D = D} view old now sound fine is_synced frames read after same written = (
-  (read old.settings old.store now.store (view old.disk).seen (view now.disk).seen (record { is = sound.is; step = sound.step fine is_synced.honest }) frames after).0,
-  settled_by view (flush_frames old.store.version old.store.tree) old.disk now.disk (λ none. ap (λ (x : State D). x.disk) (same none)) written is_synced,
-)
+    → store_of_disk (view now.disk).seen ≡ Ok (old.settings, now.store)
+filled view old now sound fine honest frames read after =
+    (read old.settings old.store now.store (view old.disk).seen (view now.disk).seen (record { is = sound.is; step = sound.step fine honest }) frames after).0
 
 -- ---- a store that was filled and flushed
 
@@ -172,16 +168,18 @@ module _ {D : Type 0} (view : D → View) (failed : D → ℕ) (old mid now : St
       → ((s : Settings) (st now : Store) (file bytes : Bytes) → IsStoreOf s st file → HasFrames s (texts.Flush st.version) st.tree → after_flush s st file ≡ Ok (now, bytes)
       → (store_of_disk bytes ≡ Ok (s, now)) × IsStoreOf s now bytes)
       → (IsTrue (view mid.disk).is_honest → after_flush mid.settings mid.store (view mid.disk).seen ≡ Ok (now.store, (view now.disk).seen))
+      → IsTrue (view old.disk).is_honest → store_of_disk (view now.disk).seen ≡ Ok (old.settings, now.store)
+  fill_bytes fine sound frames read after honest =
+      let there : IsTrue (view mid.disk).is_honest = subst (λ (d : D). IsTrue (view d).is_honest) (sym rest.1) honest in
+      subst (λ (s : Settings). store_of_disk (view now.disk).seen ≡ Ok (s, now.store)) rest.0 (filled view mid now sound (rest.2 ∙ fine) there frames read (after there))
+
+  pub fill_synced : old.has_failed ≡ false
       → (mid.has_failed ≡ false → flush_frames mid.store.version mid.store.tree ≡ [] → now ≡ mid)
       → (IsTrue (view mid.disk).is_honest → flush_frames mid.store.version mid.store.tree ≢ [] → IsSynced (view now.disk))
-      → IsSynced (view old.disk) → (store_of_disk (view now.disk).seen ≡ Ok (old.settings, now.store)) × IsSynced (view now.disk)
-  fill_bytes fine sound frames read after same written is_synced =
+      → IsSynced (view old.disk) → IsSynced (view now.disk)
+  fill_synced fine same written is_synced =
       let there : IsSynced (view mid.disk) = subst (λ (d : D). IsSynced (view d)) (sym rest.1) is_synced in
-      let good : mid.has_failed ≡ false = rest.2 ∙ fine in
-      let both = filled view mid now sound good there frames read (after there.honest) (λ none. same good none) (λ some. written there.honest some) in (
-        subst (λ (s : Settings). store_of_disk (view now.disk).seen ≡ Ok (s, now.store)) rest.0 both.0,
-        both.1,
-      )
+      settled_by view (flush_frames mid.store.version mid.store.tree) mid.disk now.disk (λ none. ap (λ (x : State D). x.disk) (same (rest.2 ∙ fine) none)) (λ some. written there.honest some) there
 
 -- ---- what a crash leaves meanwhile
 
@@ -262,17 +260,17 @@ create_refused failed (Some fault) (Ok made) e s all old given is = absurd (cc)
 create_refused {D = D} failed (Some fault) (Err f) e s all old given is = let same : f ≡ e = cc in (refl, subst (λ (x : Fault × D). x.0 ≡ fault) same given.1)
 
 pub made_back : {X D : Type 0} (view : D → View) (r : Result X (Fault × D)) (disk mid : D) → Kept (view disk) (view mid)
-    → IfErr r (λ e. Kept (view mid) (view e.1) × (e.0 ≢ Device → e.1 ≡ mid)) → IfErr r (λ e. Kept (view disk) (view e.1))
+    → IfErr r (λ e. Kept (view mid) (view e.1)) → IfErr r (λ e. Kept (view disk) (view e.1))
 made_back view (Ok x) disk mid kept back = tt
-made_back view (Err e) disk mid kept back = kept_then (view disk) (view mid) (view e.1) kept back.0
+made_back view (Err e) disk mid kept back = kept_then (view disk) (view mid) (view e.1) kept back
 
 -- the disk that is handed back has no store
 pub made_left : {X D : Type 0} (view : D → View) (r : Result X (Fault × D)) (disk mid : D) (H : Type 0) → (H → HoldsNoStore (view mid).seen) → (H → IsSynced (view mid))
-    → IfErr r (λ e. Kept (view mid) (view e.1) × (e.0 ≢ Device → e.1 ≡ mid))
+    → IfErr r (λ e. e.0 ≢ Device → e.1 ≡ mid)
     → IfErr r (λ e. e.0 ≢ Device → (e.1 ≡ disk) ⊎ (H → (store_of_disk (view e.1).seen ≡ Err NotAStore) × IsSynced (view e.1)))
-made_left view (Ok x) disk mid H hidden is_synced back = tt
-made_left {D = D} view (Err e) disk mid H hidden is_synced back = λ other. inr (λ h.
-    subst (λ (d : D). (store_of_disk (view d).seen ≡ Err NotAStore) × IsSynced (view d)) (sym (back.1 other)) (no_store (view mid).seen (hidden h), is_synced h))
+made_left view (Ok x) disk mid H hidden is_synced unchanged = tt
+made_left {D = D} view (Err e) disk mid H hidden is_synced unchanged = λ other. inr (λ h.
+    subst (λ (d : D). (store_of_disk (view d).seen ≡ Err NotAStore) × IsSynced (view d)) (sym (unchanged other)) (no_store (view mid).seen (hidden h), is_synced h))
 
 pub made_ok : {D Y : Type 0} (view : D → View) (failed : D → ℕ) (r : Result (State D) Y) (disk mid : D) (s t : Settings) → s ≡ t → Kept (view disk) (view mid) → failed mid ≡ failed disk
     → IfOk r (λ copy. (copy.settings ≡ s) × (copy.has_failed ≡ false))
@@ -283,9 +281,9 @@ made_ok view failed (Ok copy) disk mid s t same kept count made further =
 made_ok view failed (Err e) disk mid s t same kept count made further = (tt, tt)
 
 pub made_bytes : {D Y : Type 0} (view : D → View) (r : Result (State D) Y) (s t : Settings) → s ≡ t
-    → IfOk r (λ copy. (store_of_disk (view copy.disk).seen ≡ Ok (s, copy.store)) × IsSynced (view copy.disk))
-    → IfOk r (λ copy. (store_of_disk (view copy.disk).seen ≡ Ok (t, copy.store)) × IsSynced (view copy.disk))
-made_bytes view (Ok copy) s t same bytes = (subst (λ (x : Settings). store_of_disk (view copy.disk).seen ≡ Ok (x, copy.store)) same bytes.0, bytes.1)
+    → IfOk r (λ copy. store_of_disk (view copy.disk).seen ≡ Ok (s, copy.store))
+    → IfOk r (λ copy. store_of_disk (view copy.disk).seen ≡ Ok (t, copy.store))
+made_bytes view (Ok copy) s t same bytes = subst (λ (x : Settings). store_of_disk (view copy.disk).seen ≡ Ok (x, copy.store)) same bytes
 made_bytes view (Err e) s t same bytes = tt
 
 -- the copy is exact under the settings that were chosen

@@ -30,6 +30,11 @@ pub not_refused : {X U : Type 0} (why : X → Fault) (o : Option X) (r : Result 
 not_refused why None r u P h e = refl
 not_refused why (Some fault) r u P h e = absurd (cc)
 
+-- the fault of making a store is returned with its disk
+pub refused_with : (U : Type 0) (o : Option Fault) (P : Type 0) (fault : Fault) → MatchOption o P (λ f. (let r : Result U Fault = Err fault in r) ≡ Err f) → MatchOption o P (λ f. (true ≡ true) × (fault ≡ f))
+refused_with U None P fault given = given
+refused_with U (Some f) P fault given = (refl, (let same : fault ≡ f = cc in same))
+
 none_by : (o : Option Field) (b : Bool) → option_or (field_fault o) (if b then Some DiskTooSmall else None) ≡ None → (o ≡ None) × (b ≡ false)
 none_by None true e = absurd (cc)
 none_by None false e = (refl, refl)

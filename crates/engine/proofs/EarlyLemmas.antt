@@ -2,6 +2,7 @@
 use Rattle.std.specs.Prelude.{◌≡◌, ◌≢◌, ◌⊎◌, ℕ, ◌+◌, ◌/◌, ◌<◌, min, IsTrue, true, false, List, [], Option, Some, None, Result, Ok, Err, IfOk, IfErr, MatchResult}
 use Rattle.std.proofs.Common.{refl, sym, ap, ◌∙◌, subst, inl, inr, ⊎_elim, arith}
 use Rattle.std.proofs.Math.Nat.{le-max_right}
+use Rattle.std.proofs.lemmas.Bool.{true≢false}
 use Rattle.keys.specs.declared.fault.Fault.{Fault}
 use Rattle.keys.specs.declared.fault.Fault.TheVariants.{Device, NoMemory}
 use Rattle.keys.specs.declared.settings.Settings.{Settings}
@@ -11,13 +12,16 @@ use Rattle.flush_log.specs.FlushText.{flush_frames}
 use Rattle.cleaner.specs.PagesRead.{PagesRead}
 use Rattle.flush_log.proofs.SameLemmas.{leaves_the_same}
 use Rattle.engine.specs.Cleaning.{IsEarly, IsHeld, IsOfBytes, IsOfMachine, IsStoppedCleaning, most_ahead, most_cleanable}
-use Rattle.engine.specs.Cleans.{cleans, IsReadFor, IsOnlyRead, IsRefusedClean, IsCleanedOn, IsStoppedOn}
+use Rattle.engine.specs.Cleans.{cleans, IsReadFor, IsRefusedClean, IsCleanedOn, IsStoppedOn}
+use Rattle.engine.specs.OneStep.{IsOnlyRead, IsStep}
 use Rattle.engine.specs.Room.{is_overfull, is_tight, is_worth, live_known}
 use Rattle.engine.specs.State.{State, IsSound}
-use Rattle.engine.specs.Steps.Step.{Flush}
+use Rattle.engine.specs.Steps.Step.{Flush, Clean}
+use Rattle.engine.specs.Steps.Answer.{Cleaned}
 use Rattle.engine.proofs.CleaningLemmas.{still_of_bytes}
 use Rattle.engine.proofs.CleansLemmas.{none_cleaned, none_on, stopped_on}
 use Rattle.engine.proofs.PlayTurn.{crash_on}
+use Rattle.engine.proofs.RefusedCalls.{not_both}
 
 -- there is a segment at least that a row has
 pub some_ahead : (most : ℕ) (s : Settings) → most ≡ most_ahead s → 0 < most
@@ -121,25 +125,31 @@ is_other fault memory device = absurd (cc)
 
 module _ {D : Type 0} (view : D → View) (failures : D → ℕ) (lawful : (disk : D) → IsTrue (view disk).is_honest → Lawful (view disk)) where
   -- a clean for which the log was read is refused because an allocation failed
-  refused_clean : (x : State D) (r : PagesRead) (fault : Fault) → fault ≡ NoMemory → IsSound view x → IsHeld view x r → IsRefusedClean view failures x x fault
-  refused_clean x r fault memory sound held =
+  refused_clean : (x : State D) → x.has_failed ≡ false → (r : PagesRead) (fault : Fault) → fault ≡ NoMemory → IsSound view x → IsHeld view x r → IsRefusedClean view failures x x fault
+  refused_clean x fine r fault memory sound held =
       let (file, is, reading) = held.read in
       let below = held.next in
       let within = reading.within in
       let only = not_read view failures x sound in
-      record {
-        why = ((view x.disk).seen, λ _. refl, inr (λ last. absurd (omega (arith, below, within, last)), inl memory));
+      let step : IsStep {X = ℕ} view failures true x Clean (Err fault) (λ n. Cleaned n) x = record {
+        done = tt;
+        counted = tt;
         rest = only.rest;
-        store = refl;
-        counted = λ _. (refl, refl);
-        same = λ honest _. only.same honest;
+        failed = λ bad. absurd (not_both x.has_failed bad fine);
+        bad_crew = λ _ bad. absurd (true≢false bad);
+        refused = λ _ _. (file, is, inr (λ last. absurd (omega (arith, below, within, last)), inl memory));
+        undone = λ _. only;
         device = λ device. absurd (is_other fault memory device);
+        bytes = λ _. tt;
+        is_synced = λ _. tt;
+        syncs = λ _ _. tt;
         crash = λ _ is_synced. leaves_the_same (view x.disk) (view x.disk) _ (lawful x.disk is_synced.honest) (only.same is_synced.honest) is_synced (inl refl);
-        sound = sound;
-      }
+        sound = (sound, sound);
+      } in
+      (fine, step)
 
-  pub memory_on : (x : State D) (r : PagesRead) (fault : Fault) → fault ≡ NoMemory → IsSound view x → IsHeld view x r → IsStoppedOn view failures x 0 fault x
-  memory_on x r fault memory sound held = stopped_on view failures lawful x 0 x (none_on view failures lawful x) x fault (refused_clean x r fault memory sound held)
+  pub memory_on : (x : State D) → x.has_failed ≡ false → (r : PagesRead) (fault : Fault) → fault ≡ NoMemory → IsSound view x → IsHeld view x r → IsStoppedOn view failures x 0 fault x
+  memory_on x fine r fault memory sound held = stopped_on view failures lawful x 0 x (none_on view failures lawful x) x fault (refused_clean x fine r fault memory sound held)
 
   -- a flush is refused because allocation failed before any clean
   no_memory : (old : State D) → IsSound view old → flush_frames old.store.version old.store.tree ≢ [] → IsStoppedCleaning view failures old old NoMemory

@@ -74,14 +74,15 @@ module _ {D : Type 0} (view : D → View) (failed : D → ℕ) (s : Settings) (a
       (λ x h k. (kept_then (view old) (view mid) (view x.disk) (kept_below (view old) (view mid) kept) h.0, h.1 ∙ count)) further further
 
   pub shown_bytes : settings ≡ s → store_of_disk (exchanged (view mid).seen) ≡ Ok (settings, whole) → IfOk r Same → IfOk r (λ x. ((view x.disk).seen ≡ revealed (view mid).seen) × IsSynced (view x.disk))
-      → IfOk r (λ copy. (store_of_disk (view copy.disk).seen ≡ Ok (s, copy.store)) × IsSynced (view copy.disk))
+      → IfOk r (λ copy. store_of_disk (view copy.disk).seen ≡ Ok (s, copy.store))
   shown_bytes is stands same bytes =
-      if_ok r Same (λ x. ((view x.disk).seen ≡ revealed (view mid).seen) × IsSynced (view x.disk)) (λ copy. (store_of_disk (view copy.disk).seen ≡ Ok (s, copy.store)) × IsSynced (view copy.disk))
-      (λ x h k. (
-        ap (λ (f : Bytes). store_of_disk f) (k.0 ∙ shown_is (view mid).seen (settings, whole) stands)
-            ∙ subst (λ (t : Settings). store_of_disk (exchanged (view mid).seen) ≡ Ok (t, x.store)) is (subst (λ (st : Store). store_of_disk (exchanged (view mid).seen) ≡ Ok (settings, st)) (sym h.1) stands),
-        k.1,
-      )) same bytes
+      if_ok r Same (λ x. ((view x.disk).seen ≡ revealed (view mid).seen) × IsSynced (view x.disk)) (λ copy. store_of_disk (view copy.disk).seen ≡ Ok (s, copy.store))
+      (λ x h k. ap (λ (f : Bytes). store_of_disk f) (k.0 ∙ shown_is (view mid).seen (settings, whole) stands)
+      ∙ subst (λ (t : Settings). store_of_disk (exchanged (view mid).seen) ≡ Ok (t, x.store)) is (subst (λ (st : Store). store_of_disk (exchanged (view mid).seen) ≡ Ok (settings, st)) (sym h.1) stands)) same bytes
+
+  pub shown_synced : IfOk r Same → IfOk r (λ x. ((view x.disk).seen ≡ revealed (view mid).seen) × IsSynced (view x.disk)) → IfOk r (λ copy. IsSynced (view copy.disk))
+  shown_synced same bytes =
+      if_ok r Same (λ x. ((view x.disk).seen ≡ revealed (view mid).seen) × IsSynced (view x.disk)) (λ copy. IsSynced (view copy.disk)) (λ x h k. k.1) same bytes
 
   -- it is the exact copy still
   pub shown_exact : IsCopied s all whole → IfOk r Same → IfOk r (λ x. IsCopied s all x.store)
@@ -102,10 +103,12 @@ module _ {D : Type 0} (view : D → View) (failed : D → ℕ) (s : Settings) (a
   pub shown_refused : failed mid ≡ failed old → IfErr r Refused → IfErr r (λ e. IsCopyFault s all (failed old) (failed e.1) e.0)
   shown_refused count refused = if_err r Refused (λ e. IsCopyFault s all (failed old) (failed e.1) e.0) (λ e h. inl (subst (λ (n : ℕ). IsLate n (failed e.1) e.0) count h.1)) refused
 
-  pub shown_back : Kept (exchanged_view (view old)) (exchanged_view (view mid)) → IfErr r Refused → IfErr r (λ e. Kept (view old) (view e.1) × (e.0 ≢ Device → e.1 ≡ old))
+  pub shown_back : Kept (exchanged_view (view old)) (exchanged_view (view mid)) → IfErr r Refused → IfErr r (λ e. Kept (view old) (view e.1))
   shown_back kept refused =
-      if_err r Refused (λ e. Kept (view old) (view e.1) × (e.0 ≢ Device → e.1 ≡ old))
-      (λ e h. (kept_then (view old) (view mid) (view e.1) (kept_below (view old) (view mid) kept) h.2, λ other. absurd (other h.0))) refused
+      if_err r Refused (λ e. Kept (view old) (view e.1)) (λ e h. kept_then (view old) (view mid) (view e.1) (kept_below (view old) (view mid) kept) h.2) refused
+
+  pub shown_unchanged : IfErr r Refused → IfErr r (λ e. e.0 ≢ Device → e.1 ≡ old)
+  shown_unchanged refused = if_err r Refused (λ e. e.0 ≢ Device → e.1 ≡ old) (λ e h other. absurd (other h.0)) refused
 
   pub shown_leaves : settings ≡ s → contents whole.tree ≡ all → store_of_disk (exchanged (view mid).seen) ≡ Ok (settings, whole)
       → LeavesOnly (exchanged_view (view old)) (exchanged_view (view mid)) HoldsSomeStore

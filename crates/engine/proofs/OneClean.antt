@@ -1,6 +1,7 @@
 -- One clean by a reading of the log, as a step of a play.
 use Rattle.std.specs.Prelude.{◌≡◌, ◌≢◌, ◌⊎◌, ℕ, ◌≤◌, IsTrue, Bool, true, false, List, Ok}
 use Rattle.std.proofs.Common.{refl, sym, ◌∙◌, subst, ⊎_elim}
+use Rattle.std.proofs.lemmas.Bool.{true≢false}
 use Rattle.keys.specs.declared.fault.Fault.{Fault}
 use Rattle.keys.specs.declared.fault.Fault.TheVariants.{Device}
 use Rattle.keys.specs.declared.settings.Settings.{Settings}
@@ -17,10 +18,12 @@ use Rattle.recovery.specs.StoreOfDisk.{store_of_disk}
 use Rattle.cleaner.specs.AfterClean.{after_clean}
 use Rattle.cleaner.specs.Cleaned.{IsCleanFault}
 use Rattle.cleaner.specs.PagesRead.{PagesRead, IsReadingOf}
-use Rattle.engine.specs.Cleans.{IsReadFor, IsOnlyRead, IsDoneClean, IsRefusedClean}
+use Rattle.engine.specs.Cleans.{IsReadFor, IsDoneClean, IsRefusedClean}
+use Rattle.engine.specs.OneStep.{IsOnlyRead}
 use Rattle.engine.specs.State.{State, IsSound}
 use Rattle.engine.specs.Steps.Step.{Clean}
 use Rattle.engine.proofs.CleanDone.{refused-sound}
+use Rattle.engine.proofs.RefusedCalls.{not_both}
 use Rattle.engine.proofs.StepDone.{clean_done, clean_refused, clean_left}
 
 -- it was read for a store whose log has this format and these ends
@@ -63,13 +66,19 @@ module _ {D : Type 0} (view : D → View) (failures : D → ℕ) (s : Settings) 
           → IsSound view (record { settings = s; store = now; disk = new; has_failed = failed })
           → IsDoneClean view failures before (record { settings = s; store = now; disk = new; has_failed = failed }) head
       one_done now head is (file, read, bytes, done) wrote counted is_synced sound = record {
-        step = (bytes, record { file = file; shown = read.honest; done = clean_done s st now file Clean bytes head refl is done; words = tt });
-        rest = (refl, keeps);
+        done = (bytes, record { file = file; read = read; done = clean_done s st now file Clean bytes head refl is done; words = tt });
         counted = (refl, counted);
+        rest = (refl, keeps);
+        failed = λ bad. absurd (not_both failed bad fine);
+        bad_crew = λ _ bad. absurd (true≢false bad);
+        refused = λ _ _. tt;
+        undone = tt;
+        device = tt;
         bytes = λ honest. clean_done s st now (view old).seen Clean (view new).seen head refl is (wrote honest);
         is_synced = λ still. is_synced still.honest;
+        syncs = λ honest _. is_synced honest;
         crash = λ _ still. weaker (view old) (view new) _ _ (λ c left. clean_left s st (view old).seen Clean refl c left) (crash still (was.step fine still.honest));
-        sound = sound;
+        sound = (was, sound);
       }
 
       -- it was refused
@@ -78,13 +87,28 @@ module _ {D : Type 0} (view : D → View) (failures : D → ℕ) (s : Settings) 
           → (IsTrue (view old).is_honest → Same (view old) (view new) ⊎ ((fault ≡ Device) × W))
           → (fault ≢ Device → failures new ≡ failures old)
           → IsRefusedClean view failures before (record { settings = s; store = st; disk = new; has_failed = flag }) fault
-      one_refused flag fault W reported (file, read, why) written counted = record {
-        why = (file, read.honest, clean_refused s st file Clean refl (failures old) (failures new) fault why);
-        rest = (refl, keeps);
-        store = refl;
-        counted = λ other. (⊎_elim (λ yes. absurd (other yes.0)) (λ no. no.1 ∙ sym fine) reported, counted other);
-        same = λ honest other. ⊎_elim (λ same. same) (λ device. absurd (other device.0)) (written honest);
-        device = λ is. ⊎_elim (λ yes. yes.1) (λ no. absurd (no.0 is)) reported;
-        crash = λ _ still. weaker (view old) (view new) _ _ (λ c left. clean_left s st (view old).seen Clean refl c left) (crash still (was.step fine still.honest));
-        sound = refused-sound view s st old new failed was fine keeps flag fault W reported written;
-      }
+      one_refused flag fault W reported (file, read, why) written counted =
+          let sound = refused-sound view s st old new failed was fine keeps flag fault W reported written in (
+            fine,
+            record {
+              done = tt;
+              counted = tt;
+              rest = (refl, keeps);
+              failed = λ bad. absurd (not_both failed bad fine);
+              bad_crew = λ _ bad. absurd (true≢false bad);
+              refused = λ _ _. (file, read, clean_refused s st file Clean refl (failures old) (failures new) fault why);
+              undone = λ other. record {
+                rest = (refl, keeps);
+                store = refl;
+                counted = (⊎_elim (λ yes. absurd (other yes.0)) (λ no. no.1 ∙ sym fine) reported, counted other);
+                same = λ honest. ⊎_elim (λ same. same) (λ device. absurd (other device.0)) (written honest);
+                sound = sound;
+              };
+              device = λ is. (refl, ⊎_elim (λ yes. yes.1) (λ no. absurd (no.0 is)) reported, tt);
+              bytes = λ _. tt;
+              is_synced = λ _. tt;
+              syncs = λ _ _. tt;
+              crash = λ _ still. weaker (view old) (view new) _ _ (λ c left. clean_left s st (view old).seen Clean refl c left) (crash still (was.step fine still.honest));
+              sound = (was, sound);
+            },
+          )

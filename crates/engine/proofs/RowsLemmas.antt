@@ -9,7 +9,8 @@ use Rattle.mapping.specs.Tree.{Store}
 use Rattle.flush_log.specs.Disk.{View, Lawful}
 use Rattle.flush_log.specs.FlushText.{flush_frames}
 use Rattle.engine.specs.Cleaning.{CleanRow, AreCleansBy, AreRows, IsCalm, IsCalmOn, IsCleanRefused, IsCleanRefusedOn, IsEarly, IsOfBytes, IsOfMachine, IsRow, IsWhole, NoneFollow, most_cleanable, reads_in}
-use Rattle.engine.specs.Cleans.{cleans, AreStopped, IsOnlyRead, IsRefusedClean, IsCleanedOn, IsStoppedOn}
+use Rattle.engine.specs.Cleans.{cleans, AreStopped, IsRefusedClean, IsCleanedOn, IsStoppedOn}
+use Rattle.engine.specs.OneStep.{IsOnlyRead}
 use Rattle.engine.specs.Plays.{IsPlayed, IsStepFault, answer_of}
 use Rattle.engine.specs.Room.{is_overfull, is_tight, is_worth, live_known}
 use Rattle.engine.specs.State.{State, IsSound}
@@ -17,6 +18,7 @@ use Rattle.engine.specs.Steps.{Answer, after_step, batching}
 use Rattle.engine.specs.Steps.Step.{Clean}
 use Rattle.engine.specs.Turns.{IsPlayedTo}
 use Rattle.engine.specs.declared.step.Answer as code_answer
+use Rattle.engine.proofs.AsBefore.{refused_clean}
 use Rattle.engine.proofs.CleansLemmas.{none_cleaned}
 use Rattle.engine.proofs.PlayTurn.{device_or_not}
 
@@ -181,14 +183,15 @@ module _ {D : Type 0} (view : D → View) (failures : D → ℕ) (lawful : (disk
   own_refusal x st file old new fault other (inr (last, inr device)) = absurd (other.0 device.0)
 
   pub refused_on : (cur next : State D) (fault : Fault) → (fault ≢ Device) × (fault ≢ NoMemory) → IsRefusedClean view failures cur next fault → IsCleanRefusedOn view next
-  refused_on cur next fault other r =
-      let (file, shown, why) = r.why in
+  refused_on cur next fault other is =
+      let r = refused_clean view failures cur next fault is in
+      let (file, shown, why) = r.refused is.0 refl in
       let settings : next.settings ≡ cur.settings = r.rest.0 in (
         file,
         λ h. (let was = subst IsTrue r.rest.1.honest h in shown was ∙ sym (r.same was other.0).seen),
         fault,
         subst (λ (s : Settings). after_step {A = Global} (batching s) s next.store file Clean ≡ Err fault) (sym settings)
-            (subst (λ (st : Store). after_step {A = Global} (batching cur.settings) cur.settings st file Clean ≡ Err fault) (sym r.store) (own_refusal cur cur.store file _ _ fault other why)),
+            (subst (λ (st : Store). after_step {A = Global} (batching cur.settings) cur.settings st file Clean ≡ Err fault) (sym r.unchanged) (own_refusal cur cur.store file _ _ fault other why)),
       )
 
   machine_or : (fault : Fault) → IsOfMachine fault ⊎ ((fault ≢ Device) × (fault ≢ NoMemory))
@@ -253,8 +256,9 @@ module _ {D : Type 0} (view : D → View) (failures : D → ℕ) (lawful : (disk
 
   -- the reading was refused as a clean is
   pub calm_refused : (old next : State D) (fault : Fault) → (fault ≢ Device) × (fault ≢ NoMemory) → IsRefusedClean view failures old next fault → IsCalmOn view old
-  calm_refused old next fault other r =
-      inr (refused_before old next r.rest.0 r.rest.1.honest r.store (λ h. (r.same h other.0).seen) (refused_on old next fault other r))
+  calm_refused old next fault other is =
+      let r = refused_clean view failures old next fault is in
+      inr (refused_before old next r.rest.0 r.rest.1.honest r.unchanged (λ h. (r.same h other.0).seen) (refused_on old next fault other is))
 
   -- no clean was done, and the first one was refused
   pub calm_moved : (old next : State D) (n : ℕ) → n ≡ 0 → IsSound view old → IsCleanedOn view failures old n next → IsCleanRefusedOn view next → IsCalmOn view old

@@ -1,5 +1,5 @@
 -- A flush that cleans a log with little room: which rows of cleans it performs, their effects, and why it fails.
-use Rattle.std.specs.Prelude.{◌≡◌, ◌≢◌, ◌⊎◌, ℕ, ◌+◌, ◌-◌, ◌/◌, max, min, ◌<◌, ◌≤◌, Bool, IsTrue, true, false, List, [], ◌∷◌, ◌++◌, length, Some, Ok, Err}
+use Rattle.std.specs.Prelude.{◌≡◌, ◌≢◌, ◌⊎◌, ℕ, ◌+◌, ◌-◌, ◌/◌, max, min, ◌<◌, ◌≤◌, Bool, IsTrue, true, false, List, [], ◌∷◌, ◌++◌, length, Option, Some, None, IfSome, Result, Ok, Err, IfOk, IfErr, MatchResult}
 use Rattle.std.specs.declared.alloc.Global.{Global}
 use Rattle.keys.specs.Bytes.{Bytes}
 use Rattle.keys.specs.declared.fault.Fault.{Fault}
@@ -12,7 +12,8 @@ use Rattle.flush_log.specs.Disk.{View, IsSynced, Kept, LeavesOnly}
 use Rattle.flush_log.specs.FlushText.{flush_frames}
 use Rattle.flush_log.specs.Segments.{last_segment}
 use Rattle.cleaner.specs.PagesRead.{PagesRead}
-use Rattle.engine.specs.Cleans.{cleans, IsReadFor, IsOnlyRead, IsRefusedClean}
+use Rattle.engine.specs.Cleans.{cleans, IsReadFor, IsRefusedClean, IsCleanedOn, IsStoppedOn}
+use Rattle.engine.specs.OneStep.{IsOnlyRead}
 use Rattle.engine.specs.Compacted.{IsCompacted}
 use Rattle.engine.specs.Plays.{IsPlayed, IsPlayedOn, IsStepDone, IsStepFault}
 use Rattle.engine.specs.Room.{is_bloated, is_overfull, is_tight, is_two_thirds_full, is_worth, live_known}
@@ -35,6 +36,10 @@ IsRoomy s st file = (live : ℕ) × (live_known s st file ≡ Some live) × (is_
 -- these bytes are too many
 abbrev pub IsOverfull : Settings → Store → Bytes → Type 0
 IsOverfull s st file = (live : ℕ) × (live_known s st file ≡ Some live) × (is_overfull s st live ≡ true)
+
+-- a flush is due, and few segments are free
+abbrev pub IsDueAndTight : Settings → Store → Type 0
+IsDueAndTight s st = (is_tight s st ≡ true) × (flush_frames st.version st.tree ≢ [])
 
 -- a flush is due, few segments are free, enough bytes of the log are dead for a row of cleans, and few enough bytes are live for the flush
 pub record IsEarly (s : Settings) (st : Store) (file : Bytes) : Type 0 where
@@ -209,6 +214,16 @@ abbrev pub IsWhole : {D : Type 0} → (D → View) → State D → ℕ → ℕ �
 IsWhole view old most n now =
     (n ≤ min most (most_cleanable old.settings old.store)) × ((n ≡ min most (most_cleanable old.settings old.store)) ⊎ IsCleanRefusedOn view now)
 
+-- The log was read for the next `count` cleans, or for the cleans of all segments before the last one if these are fewer; or it was not read.
+pub record IsReadAhead {D : Type 0} (view : D → View) (failures : D → ℕ) (old : State D) (count : ℕ) (result : Result PagesRead Fault) (now : State D) : Type 0 where
+  pub read : IfOk result (λ r. IsOnlyRead view failures old now × IsReadFor view now r × (now.store.head < r.limit))
+  pub limit : IfOk result (λ r. r.limit ≡ old.store.head + min count (most_cleanable old.settings old.store))
+  pub refused : IfErr result (IsRefusedClean view failures old now)
+  -- the number of live bytes; a log that is refused because of its contents is damaged
+  pub live : (file : Bytes) × (IsTrue (view old.disk).is_honest → file ≡ (view old.disk).seen)
+      × MatchResult result (λ r. live_known old.settings old.store file ≡ Some r.live)
+      (λ fault. (fault ≡ NothingToClean) ⊎ (fault ≡ NoMemory) ⊎ (fault ≡ Device) ⊎ (live_known old.settings old.store file ≡ None))
+
 -- a reading of this store's log with its number of live bytes, by which as many of the next cleans can be performed as a row has, or as there are
 -- segments before the last one
 pub record IsHeld {D : Type 0} (view : D → View) (x : State D) (r : PagesRead) : Type 0 where
@@ -216,6 +231,62 @@ pub record IsHeld {D : Type 0} (view : D → View) (x : State D) (r : PagesRead)
   pub next : x.store.head < r.limit
   pub limit : r.limit ≡ x.store.head + min (most_ahead x.settings) (most_cleanable x.settings x.store)
   pub live : IsOfBytes view x (λ s st file. live_known s st file ≡ Some r.live)
+
+-- Cleans were done by a reading that has `within` more segments: all of these, or `most` if that is less.
+abbrev pub AreDoneBy : {D : Type 0} → (D → View) → (D → ℕ) → State D → ℕ → ℕ → State D → ℕ → Type 0
+AreDoneBy view failures old most within now n = (0 < n) × (n ≤ most) × (n ≡ min most within) × IsCleanedOn view failures old n now
+
+-- After `e.0` cleans by such a reading, the next one was refused with the fault `e.1`: by what the disk shows, unless a call of it or an allocation failed.
+abbrev pub AreStoppedBy : {D : Type 0} → (D → View) → (D → ℕ) → State D → ℕ → ℕ → State D → ℕ × Fault → Type 0
+AreStoppedBy view failures old most within now e =
+    (e.0 < most) × (e.0 < within) × (e.0 ≡ 0 → now.store ≡ old.store) × IsStoppedOn view failures old e.0 e.1 now × (IsOfMachine e.1 ⊎ IsCleanRefusedOn view now)
+
+-- a row of at most `most` cleans may begin by this reading, in a store that has not failed
+pub record IsRowReady {D : Type 0} (view : D → View) (x : State D) (r : PagesRead) (most : ℕ) : Type 0 where
+  pub fine : x.has_failed ≡ false
+  pub held : IsHeld view x r
+  pub some : 0 < most
+  pub few : most ≤ most_ahead x.settings
+
+-- by this number of live bytes, a row of cleans is worth its cost, and may make room for the flush
+abbrev pub MayHelp : Settings → Store → ℕ → Type 0
+MayHelp s st live = (is_worth s st live ≡ true) × (is_overfull s st live ≡ false)
+
+-- a row of `n` cleans was done, of at most `most`, and is as long as it may be
+abbrev pub IsRowDone : {D : Type 0} → (D → View) → (D → ℕ) → State D → ℕ → State D → ℕ → Type 0
+IsRowDone view failures old most now n = (0 < n) × (n ≤ most) × IsCleanedOn view failures old n now × IsWhole view old most n now
+
+-- A row of at most `most` cleans was refused: at its first clean, or, after some of them, by the disk or for want of memory. The refused clean is refused
+-- by what the disk shows, unless a call of the disk or an allocation failed.
+abbrev pub IsRowStopped : {D : Type 0} → (D → View) → (D → ℕ) → State D → ℕ → State D → Fault → Type 0
+IsRowStopped view failures old most now fault =
+    (n : ℕ) × (n < most) × (n ≤ most_cleanable old.settings old.store)
+    × (((n ≡ 0) × (now.store ≡ old.store)) ⊎ IsOfMachine fault)
+    × IsStoppedOn view failures old n fault now
+    × (IsOfMachine fault ⊎ IsCleanRefusedOn view now)
+
+-- Early cleans were done, of which there are at most `most`, or none. If there are some, `Due` holds, and the row is as long as it may be; if there are none,
+-- `Calm` holds. The reading, if there is one, serves for the next cleans.
+abbrev pub IsEarlyRow : {D : Type 0} → (D → View) → (D → ℕ) → Type 0 → Type 0 → State D → ℕ → State D → ℕ × Option PagesRead → Type 0
+IsEarlyRow view failures Due Calm old most now e =
+    (e.0 ≤ most) × IsCleanedOn view failures old e.0 now
+    × (0 < e.0 → Due × IsWhole view old most e.0 now)
+    × (e.0 ≡ 0 → Calm)
+    × IfSome e.1 (IsHeld view now)
+
+-- Early cleans end the flush, because a call of the disk or an allocation failed. If some were done, `Due` holds.
+abbrev pub IsEarlyStop : {D : Type 0} → (D → View) → (D → ℕ) → Type 0 → State D → ℕ → State D → Fault → Type 0
+IsEarlyStop view failures Due old most now fault =
+    IsOfMachine fault × (n : ℕ) × (n < most) × (n ≤ most_cleanable old.settings old.store)
+    × (0 < n → Due)
+    × IsStoppedOn view failures old n fault now
+
+-- early cleans by a new reading, which may help by what the disk shows
+abbrev pub IsDoneEarly : {D : Type 0} → (D → View) → (D → ℕ) → State D → ℕ → State D → ℕ × Option PagesRead → Type 0
+IsDoneEarly view failures old most now e = IsEarlyRow view failures (IsOfBytes view old IsEarly) (IsCalmOn view old) old most now e
+
+abbrev pub IsStoppedEarly : {D : Type 0} → (D → View) → (D → ℕ) → State D → ℕ → State D → Fault → Type 0
+IsStoppedEarly view failures old most now fault = IsEarlyStop view failures (IsOfBytes view old IsEarly) old most now fault
 
 -- why there is no reading by which a clean may help: too many bytes are live for the flush, allocation failed, or the reading failed
 pub record IsNoReading {D : Type 0} (view : D → View) (failures : D → ℕ) (old now : State D) (fault : Fault) : Type 0 where

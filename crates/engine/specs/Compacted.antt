@@ -1,5 +1,5 @@
 -- The effect of compaction on a tree and on a store, and the tables of the intermediate steps.
-use Rattle.std.specs.Prelude.{◌≡◌, ℕ, Bool, true, false, if◌then◌else◌, List, [], Some, None}
+use Rattle.std.specs.Prelude.{◌≡◌, ◌⊎◌, ℕ, Bool, IsTrue, true, false, if◌then◌else◌, List, [], Some, None}
 use Rattle.std.specs.Map.{keys_of}
 use Rattle.std.specs.declared.alloc.Global.{Global}
 use Rattle.keys.specs.declared.command.Command.{Command}
@@ -17,6 +17,8 @@ use Rattle.mapping.specs.Tree.Logged.{No, Old, Upto}
 use Rattle.climb_plan.specs.Plan.{planned_tree}
 use Rattle.engine.specs.Batch.{IsLaterFault}
 use Rattle.engine.specs.Copies.{puts_of}
+use Rattle.engine.specs.Room.{is_bloated, is_two_thirds_full}
+use Rattle.engine.specs.State.{State}
 
 -- ---- a compacted store
 
@@ -36,6 +38,11 @@ compacted s t = planned_tree s (outdated_tree t) (all_puts t)
 pub record IsCompacted (s : Settings) (old now : Store) : Type 0 where
   pub holds : contents now.tree ≡ contents old.tree
   pub planned : now ≡ with_tree old (compacted s old.tree)
+
+-- nothing changed; or the log was two thirds full, the tree was bloated, and the store was compacted
+abbrev pub IsCompactedIfBloated : {D : Type 0} → State D → State D → Type 0
+IsCompactedIfBloated old new =
+    (new ≡ old) ⊎ (IsTrue (is_two_thirds_full old.settings old.store) × IsTrue (is_bloated old.settings old.store.tree) × IsCompacted old.settings old.store new.store)
 
 -- why a store is not compacted: out of memory, or the compacted tree would have too many levels
 abbrev pub IsCompactFault : Settings → Tree → Fault → Type 0

@@ -1,21 +1,24 @@
 -- What a copy of a store puts into the new one, how much of it is done, and why there is no copy.
-use Rattle.std.specs.Prelude.{◌≡◌, ◌≢◌, ◌⊎◌, ℕ, zero, suc, List, [], ◌∷◌, ◌++◌, length, map, take, drop, Option, Some, None, Result, Ok, Err}
+use Rattle.std.specs.Prelude.{◌≡◌, ◌≢◌, ◌⊎◌, ⊤, ℕ, zero, suc, false, IsTrue, List, [], ◌∷◌, ◌++◌, length, map, take, drop, Option, Some, None, Result, Ok, Err, IfOk, OnOk, IfErr, MatchOption, MatchResult, ◌<◌}
+use Rattle.std.specs.Borrow.{Bor}
 use Rattle.std.specs.Option.{option_or}
 use Rattle.std.specs.declared.alloc.Global.{Global}
 use Rattle.keys.specs.Bytes.{Bytes, Pairs}
 use Rattle.keys.specs.declared.command.Command.{Command}
 use Rattle.keys.specs.declared.command.Command.TheVariants.{Put}
 use Rattle.keys.specs.declared.fault.Fault.{Fault}
-use Rattle.keys.specs.declared.fault.Fault.TheVariants.{NoMemory, NotAStore}
+use Rattle.keys.specs.declared.fault.Fault.TheVariants.{Device, NoMemory, NotAStore}
 use Rattle.keys.specs.declared.settings.Settings.{Settings}
 use Rattle.mapping.specs.Levels.{contents}
 use Rattle.mapping.specs.Tree.{Tree, Store, with_tree}
 use Rattle.flush_log.specs.AfterFlush.{after_flush}
+use Rattle.flush_log.specs.Disk.{View, IsSynced, Kept, LeavesOnly}
 use Rattle.recovery.specs.Recovered.{IsLate}
 use Rattle.recovery.specs.StoreOfDisk.{first_store, store_of_disk}
 use Rattle.climb_plan.specs.Plan.{planned_tree}
 use Rattle.engine.specs.Batch.{refusal_by}
 use Rattle.engine.specs.Batches.{tree_in_turn}
+use Rattle.engine.specs.State.{State, IsOnlyInMemory, IsSound}
 
 -- a put of a pair, and puts of pairs in their order
 abbrev pub put_of : Bytes × Bytes → Command Global
@@ -109,3 +112,65 @@ IsLeftFilling s all c = (store_of_disk c ≡ Err NotAStore) ⊎ HoldsCopy s all 
 -- what a crash in a copy may leave of the new disk: the bytes as they were, no store, or a whole copy
 abbrev pub IsLeftCopying : Settings → Pairs Bytes → Bytes → Bytes → Type 0
 IsLeftCopying s all file c = (c ≡ file) ⊎ IsLeftFilling s all c
+
+-- ---- what the calls promise
+
+-- The next pairs of `all` that a store lacks were put into it, and the key of the last one was returned, or `None` if it lacks none; or they were not put.
+-- Only the tree of the store changed.
+pub record IsNextPut {D : Type 0} (all : Pairs Bytes) (old : State D) (result : Result (Option (Bor Bytes)) Fault) (new : State D) : Type 0 where
+  pub further : IfOk result (λ end. MatchOption end (contents new.store.tree ≡ all)
+      (λ key. IsBegun all (contents new.store.tree) (Some key.now) × (length (contents old.store.tree) < length (contents new.store.tree))))
+  pub log : OnOk result (new.store ≡ with_tree old.store new.store.tree)
+  pub rest : IsOnlyInMemory old new
+  -- the pairs that the store lacks decide: their first piece is put, or refused
+  pub tree : (left : Pairs Bytes) → contents old.store.tree ++ left ≡ all
+      → IfOk result (λ end. MatchOption end (new ≡ old) (λ key. IsPutOn old.settings old.store.tree left new.store.tree))
+  pub refused : (left : Pairs Bytes) → contents old.store.tree ++ left ≡ all → IfErr result (IsPutRefused old.settings old.store.tree left)
+
+-- All pairs were put into a store, or why not. Only the tree of the store changed.
+pub record ArePutInto {D : Type 0} (all : Pairs Bytes) (old : State D) (result : Result ⊤ Fault) (new : State D) : Type 0 where
+  pub holds : OnOk result (contents new.store.tree ≡ all)
+  pub log : OnOk result (new.store ≡ with_tree old.store new.store.tree)
+  pub rest : IsOnlyInMemory old new
+  pub tree : OnOk result ((new.store.tree ≡ tree_in_turn old.settings old.store.tree (batches_of all)) × (refused_in_turn old.settings old.store.tree (batches_of all) ≡ None))
+  pub refused : IfErr result (λ fault. (fault ≡ NoMemory) ⊎ (refused_in_turn old.settings old.store.tree (batches_of all) ≡ Some fault))
+
+-- a store that was just created: it holds no pairs, and has not failed
+pub record IsFresh {D : Type 0} (view : D → View) (x : State D) : Type 0 where
+  pub first : x.store ≡ first_store
+  pub empty : contents x.store.tree ≡ []
+  pub fine : x.has_failed ≡ false
+  pub sound : IsSound view x
+
+-- the result of a call that changes a store, as the result of a call that returns the store, or the fault and the store's disk
+abbrev pub with_store : {D : Type 0} → Result ⊤ Fault → State D → Result (State D) (Fault × D)
+with_store (Ok x) now = Ok now
+with_store (Err fault) now = Err (fault, now.disk)
+
+-- A copy of these pairs was made on the disk `old`, under these settings, or was not made. `file` is what the disk showed when the first pair was put;
+-- `Left` is what a crash may leave.
+pub record IsCopyOn {D : Type 0} (view : D → View) (failures : D → ℕ) (s : Settings) (all : Pairs Bytes) (old : D) (file : Bytes) (Left : Bytes → Type 0)
+    (result : Result (State D) (Fault × D)) : Type 0 where
+  -- it holds these pairs, under these settings, and is exactly what the batches of a copy and a flush leave
+  pub made : IfOk result (λ copy. (copy.settings ≡ s) × (copy.has_failed ≡ false))
+  pub holds : IfOk result (λ copy. contents copy.store.tree ≡ all)
+  pub exact : IfOk result (λ copy. IsCopied s all copy.store)
+  -- on any disk
+  pub kept : IfOk result (λ copy. Kept (view old) (view copy.disk) × (failures copy.disk ≡ failures old))
+  pub back : IfErr result (λ e. Kept (view old) (view e.1))
+  pub sound : IfOk result (λ copy. IsSound view copy)
+  -- on an honest disk: its bytes are a function of the pairs, the settings and `file`, and they encode the copy
+  pub written : IsTrue (view old).is_honest → IfOk result (λ copy. after_filling s all file ≡ Ok (copy.store, (view copy.disk).seen))
+  pub bytes : IsTrue (view old).is_honest → IfOk result (λ copy. store_of_disk (view copy.disk).seen ≡ Ok (s, copy.store))
+  -- on a synced disk: what a crash at any moment may leave
+  pub crash : IsSynced (view old) → MatchResult result (λ copy. LeavesOnly (view old) (view copy.disk) Left) (λ e. LeavesOnly (view old) (view e.1) Left)
+
+-- A fresh store on the disk `old` was filled with these pairs and flushed, or was not.
+pub record IsFilling {D : Type 0} (view : D → View) (failures : D → ℕ) (s : Settings) (all : Pairs Bytes) (old : D) (file : Bytes) (Left : Bytes → Type 0)
+    (result : Result (State D) (Fault × D)) : Type 0 where
+  pub copy : IsCopyOn view failures s all old file Left result
+  -- a synced disk stays synced
+  pub is_synced : IsSynced (view old) → IfOk result (λ copy. IsSynced (view copy.disk))
+  -- which fault, and that the disk is unchanged unless a call of it failed
+  pub refused : IfErr result (λ e. IsCopyFault s all (failures old) (failures e.1) e.0)
+  pub unchanged : IfErr result (λ e. e.0 ≢ Device → e.1 ≡ old)

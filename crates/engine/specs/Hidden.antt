@@ -1,11 +1,14 @@
 -- A disk on which a store is created so that no reader finds it before it is complete: only at the end its first byte becomes that of a store.
-use Rattle.std.specs.Prelude.{◌≡◌, ◌⊎◌, ℕ, Bool, nat_eq, ◌==◌, ◌||◌, if◌then◌else◌, [], ◌∷◌, take, slice_index, is_some, Err}
+use Rattle.std.specs.Prelude.{◌≡◌, ◌⊎◌, ℕ, Bool, IsTrue, nat_eq, ◌==◌, ◌||◌, if◌then◌else◌, [], ◌∷◌, take, slice_index, is_some, Result, Err, IfOk, IfErr, MatchResult}
 use Rattle.std.specs.List.{list_all}
 use Rattle.keys.specs.Bytes.{Bytes}
-use Rattle.keys.specs.declared.fault.Fault.TheVariants.{NotAStore}
-use Rattle.flush_log.specs.Disk.{View}
+use Rattle.keys.specs.declared.fault.Fault.{Fault}
+use Rattle.keys.specs.declared.fault.Fault.TheVariants.{Device, NotAStore}
+use Rattle.flush_log.specs.Disk.{View, IsSynced, Kept, LeavesOnly}
 use Rattle.flush_log.specs.Overlay.{overlay, IsBeside, AgreeAt}
 use Rattle.flush_log.specs.SettingsBlock.{read_settings, settings_block_size, store_settings}
+use Rattle.recovery.specs.Recovered.{IsLate}
+use Rattle.engine.specs.State.{State, IsSound}
 
 -- the first byte of a settings block, B
 abbrev pub store_byte : ℕ
@@ -51,6 +54,20 @@ revealed file = overlay file 0 (store_byte ∷ [])
 -- what a crash may leave during that write: no store, or those bytes
 abbrev pub IsLeftRevealing : Bytes → Bytes → Type 0
 IsLeftRevealing file c = HoldsNoStore c ⊎ (c ≡ revealed file)
+
+-- A store whose disk hides the disk beneath it was revealed, or was not.
+pub record IsRevealed {D E : Type 0} (view : D → View) (failures : D → ℕ) (hidden : State E) (beneath : D) (result : Result (State D) (Fault × D)) : Type 0 where
+  -- it is the same store, on the disk beneath
+  pub same : IfOk result (λ shown. (shown.settings ≡ hidden.settings) × (shown.store ≡ hidden.store) × (shown.has_failed ≡ hidden.has_failed))
+  pub kept : IfOk result (λ shown. Kept (view beneath) (view shown.disk) × (failures shown.disk ≡ failures beneath))
+  pub sound : IfOk result (λ shown. IsSound view shown)
+  -- only a call of the disk can fail
+  pub refused : IfErr result (λ e. (e.0 ≡ Device) × IsLate (failures beneath) (failures e.1) e.0 × Kept (view beneath) (view e.1))
+  -- on an honest disk: the bytes, synced; on a synced disk: what a crash at any moment leaves
+  pub bytes : IsTrue (view beneath).is_honest → IfOk result (λ shown. ((view shown.disk).seen ≡ revealed (view beneath).seen) × IsSynced (view shown.disk))
+  pub crash : IsSynced (view beneath) → MatchResult result
+      (λ shown. LeavesOnly (view beneath) (view shown.disk) (IsLeftRevealing (view beneath).seen))
+      (λ e. LeavesOnly (view beneath) (view e.1) (IsLeftRevealing (view beneath).seen))
 
 -- only zeros, or no bytes
 abbrev pub are_zeros : Bytes → Bool

@@ -1,19 +1,25 @@
 -- One step of a store: a batch, a flush, a clean or an upgrade. What its call returns, why the call is refused, and what it leaves.
-use Rattle.std.specs.Prelude.{◌≡◌, ◌≢◌, ⊤, ℕ, Bool, IsTrue, true, false, [], Result, Ok, Err, IfOk, IfErr, OnOk}
+use Rattle.std.specs.Prelude.{◌≡◌, ◌≢◌, ⊤, ℕ, Bool, IsTrue, true, false, List, [], None, Result, Ok, Err, IfOk, IfErr, OnOk, OnErr, MatchOption}
 use Rattle.std.specs.declared.alloc.Global.{Global}
 use Rattle.keys.specs.Bytes.{Bytes}
+use Rattle.keys.specs.Step.{map_after_all, replies_to}
+use Rattle.keys.specs.declared.command.Command.{Command}
+use Rattle.keys.specs.declared.command.Reply.{Reply}
 use Rattle.keys.specs.declared.fault.Fault.{Fault}
 use Rattle.keys.specs.declared.fault.Fault.TheVariants.{BadCrew, Device, Failed}
 use Rattle.keys.specs.declared.settings.Settings.{Settings}
+use Rattle.mapping.specs.Levels as levels
 use Rattle.mapping.specs.Tree.{Store}
-use Rattle.flush_log.specs.Disk.{View, IsSynced, Kept, LeavesOnly}
+use Rattle.flush_log.specs.Disk.{View, IsSynced, Kept, Same, LeavesOnly}
 use Rattle.flush_log.specs.FlushText.{flush_frames}
 use Rattle.flush_log.specs.declared.text.CommitKind.{CommitKind}
 use Rattle.flush_log.specs.declared.text.CommitKind.TheVariants as texts
 use Rattle.recovery.specs.Recovered.{IsReadOf}
-use Rattle.engine.specs.Cleans.{IsOnlyRead}
+use Rattle.climb_plan.specs.Plan.{plan}
+use Rattle.engine.specs.Batch.{IsLaterFault, refusal_by}
 use Rattle.engine.specs.Plays.{IsStepFault, IsLeftInStep}
-use Rattle.engine.specs.State.{State, IsSound}
+use Rattle.engine.specs.Refusal.{refusal}
+use Rattle.engine.specs.State.{State, IsOnlyInMemory, IsSound}
 use Rattle.engine.specs.Steps.{Step, Answer, NumbersFit, after_step, batching}
 use Rattle.engine.specs.Steps.Step.{Batch, Flush, Clean, Upgrade}
 use Rattle.engine.specs.Steps.Answer.{Flushed, Upgraded}
@@ -45,6 +51,14 @@ Syncs (Batch cs) st = ⊥
 Syncs Flush st = flush_frames st.version st.tree ≢ []
 Syncs Clean st = ⊤
 Syncs Upgrade st = ⊤
+
+-- only the disk was read
+pub record IsOnlyRead {D : Type 0} (view : D → View) (failures : D → ℕ) (old now : State D) : Type 0 where
+  pub rest : (now.settings ≡ old.settings) × Kept (view old.disk) (view now.disk)
+  pub store : now.store ≡ old.store
+  pub counted : (now.has_failed ≡ old.has_failed) × (failures now.disk ≡ failures old.disk)
+  pub same : IsTrue (view old.disk).is_honest → Same (view old.disk) (view now.disk)
+  pub sound : IsSound view now
 
 -- What a step leaves if it fails, but no call of the disk failed: all as it was, except that a clean may have read the disk.
 abbrev pub IsUndone : {D : Type 0} → (D → View) → (D → ℕ) → Step Global → State D → State D → Type 0
@@ -84,4 +98,22 @@ pub record IsStep {D X : Type 0} (view : D → View) (failures : D → ℕ) (abl
   pub syncs : IsTrue (view old.disk).is_honest → Syncs x old.store → OnOk result (IsSynced (view new.disk))
   pub crash : old.has_failed ≡ false → IsSynced (view old.disk)
       → LeavesOnly (view old.disk) (view new.disk) (IsLeftInStep old.settings old.store (view old.disk).seen x)
+  pub sound : IsSound view old × IsSound view new
+
+-- What the call of a batch promises: it was called with these commands on the store `old`, returned this result, whose replies are `said`, and left the
+-- store `new`. `able` says whether its crew is in range.
+pub record IsBatch {D X : Type 0} (view : D → View) (able : Bool) (old : State D) (cs : List (Command Global)) (result : Result X Fault) (said : X → List (Reply Global)) (new : State D) : Type 0 where
+  -- the replies are those of an ordered map; the pages, the root, the height and the log states are those of the plan
+  pub replies : IfOk result (λ x. said x ≡ replies_to (levels.contents old.store.tree) cs)
+  pub store : OnOk result (new.store ≡ plan old.settings old.store cs)
+  pub contents : OnOk result (levels.contents new.store.tree ≡ map_after_all (levels.contents old.store.tree) cs)
+  pub rest : IsOnlyInMemory old new
+  -- which fault, and that there are no other faults except for memory and for the height
+  pub failed : old.has_failed ≡ true → result ≡ Err Failed
+  pub bad_crew : old.has_failed ≡ false → able ≡ false → result ≡ Err BadCrew
+  pub refused : old.has_failed ≡ false → IsTrue able
+      → MatchOption (refusal old.settings cs) (IfErr result (IsLaterFault old.settings old.store.tree cs)) (λ fault. result ≡ Err fault)
+  pub unchanged : OnErr result (new ≡ old)
+  -- a batch that succeeds is refused by no rule, and its root's page id has 64 bits
+  pub allowed : OnOk result ((refusal_by old.settings old.store.tree cs ≡ None) × NumbersFit (batching old.settings) old.settings old.store (Batch cs))
   pub sound : IsSound view old × IsSound view new

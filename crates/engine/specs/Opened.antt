@@ -1,10 +1,12 @@
 -- The result of opening a store on a disk.
-use Rattle.std.specs.Prelude.{◌≡◌, ◌⊎◌, ℕ, Result, Ok, Err, MatchResult}
+use Rattle.std.specs.Prelude.{◌≡◌, ◌≢◌, ◌⊎◌, ℕ, Bool, IsTrue, false, Result, Ok, Err, MatchResult, IfOk, IfErr}
 use Rattle.keys.specs.Bytes.{Bytes}
 use Rattle.keys.specs.declared.fault.Fault.{Fault}
-use Rattle.recovery.specs.Recovered.{IsLate}
+use Rattle.keys.specs.declared.fault.Fault.TheVariants.{BadCrew, Device}
+use Rattle.flush_log.specs.Disk.{View, IsSynced, Kept, Leaves}
+use Rattle.recovery.specs.Recovered.{IsLate, IsReadOf}
 use Rattle.recovery.specs.StoreOfDisk.{store_of_disk}
-use Rattle.engine.specs.State.{State}
+use Rattle.engine.specs.State.{State, IsSound}
 
 -- the disk in the store that was opened, or the disk that was returned
 abbrev pub disk_left : {D : Type 0} → Result (State D) (Fault × D) → D
@@ -16,3 +18,20 @@ abbrev pub IsOpened : {D : Type 0} → (D → ℕ) → Bytes → ℕ → Result 
 IsOpened failed file old result = MatchResult result
     (λ x. store_of_disk file ≡ Ok (x.settings, x.store))
     (λ e. (store_of_disk file ≡ Err e.0) ⊎ IsLate old (failed e.1) e.0)
+
+-- A disk was synced, and the store on it was opened, or was not. `able` says whether the crew is in range.
+pub record IsOpenedOn {D : Type 0} (view : D → View) (failures : D → ℕ) (able : Bool) (disk : D) (result : Result (State D) (Fault × D)) : Type 0 where
+  -- the crew is checked before the disk is called
+  pub bad_crew : able ≡ false → result ≡ Err (BadCrew, disk)
+  -- the store, or the fault, by the bytes that were read, whatever the disk does; on an honest disk these are its readable contents
+  pub read : IsTrue able → (file : Bytes) × IsReadOf (view disk) file × IsOpened failures file (failures disk) result
+  pub honest : IsTrue able → IsTrue (view disk).is_honest → IsOpened failures (view disk).seen (failures disk) result
+  pub fine : IfOk result (λ opened. opened.has_failed ≡ false)
+  -- the readable contents are unchanged; if a store is returned, the disk is synced; and a crash leaves what it might have left before
+  pub seen : IsTrue (view disk).is_honest → (view (disk_left result)).seen ≡ (view disk).seen
+  pub is_synced : IsTrue (view disk).is_honest → IfOk result (λ opened. IsSynced (view opened.disk))
+  pub crash : IsTrue (view disk).is_honest → Leaves (view disk) (view (disk_left result)) (λ before c. c ≡ before)
+  pub kept : Kept (view disk) (view (disk_left result))
+  pub counted : IfOk result (λ opened. failures opened.disk ≡ failures disk)
+  pub uncounted : IfErr result (λ e. e.0 ≢ Device → failures e.1 ≡ failures disk)
+  pub sound : IfOk result (λ opened. IsSound view opened)

@@ -1,13 +1,19 @@
 -- Which calls are refused for their crew, which batches for their commands, and with which fault.
-use Rattle.std.specs.Prelude.{ℕ, ◌+◌, nat_lt, length, if◌then◌else◌, List, [], ◌∷◌, Option, Some, None}
+use Rattle.std.specs.Prelude.{◌≡◌, ℕ, ◌+◌, nat_lt, length, if◌then◌else◌, Bool, true, false, List, [], ◌∷◌, Option, Some, None, Result, Err}
 use Rattle.std.specs.Option.{option_or}
 use Rattle.keys.specs.Bytes.{Bytes}
 use Rattle.keys.specs.Footprint.{Span, One, Range, Access, Gives, span_of, access_of}
 use Rattle.keys.specs.declared.settings.Settings.{Settings}
 use Rattle.keys.specs.declared.command.Command.{Command}
 use Rattle.keys.specs.declared.fault.Fault.{Fault}
-use Rattle.keys.specs.declared.fault.Fault.TheVariants.{KeyTooLong, ValueTooLong, BatchTooLong}
+use Rattle.keys.specs.declared.fault.Fault.TheVariants.{BadCrew, Failed, KeyTooLong, ValueTooLong, BatchTooLong}
 pub use Rattle.crew.specs.Crew.{is_crew}
+use Rattle.engine.specs.State.{State}
+
+-- A call on a store that has failed returns `Failed`, and else, if the crew is out of range (`able` is false), `BadCrew`; the store is unchanged then.
+pub record IsAdmitted {D X : Type 0} (able : Bool) (old : State D) (result : Result X Fault) (new : State D) : Type 0 where
+  pub failed : old.has_failed ≡ true → (result ≡ Err Failed) × (new ≡ old)
+  pub bad_crew : old.has_failed ≡ false → able ≡ false → (result ≡ Err BadCrew) × (new ≡ old)
 
 -- the fault of a key of the command at this place, if it has one
 abbrev pub key_fault : Settings → ℕ → Bytes → Option Fault

@@ -16,6 +16,10 @@ pub record State (D : Type 0) : Type 0 where
   pub disk : D
   pub has_failed : Bool
 
+-- settings, disk and whether a call of it failed are unchanged: only what the store holds in memory may have changed
+abbrev pub IsOnlyInMemory : {D : Type 0} → State D → State D → Type 0
+IsOnlyInMemory old new = (new.settings ≡ old.settings) × (new.disk ≡ old.disk) × (new.has_failed ≡ old.has_failed)
+
 -- The invariant of every store, given the view of disks: it satisfies the invariant of stores, its disk has room for all segments, and on an honest
 -- disk, as long as no call has failed, it is in step with the disk's readable contents.
 pub record IsSound {D : Type 0} (view : D → View) (x : State D) : Type 0 where

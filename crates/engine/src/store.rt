@@ -1,17 +1,9 @@
 //! The store: a tree of pages and its log on a disk.
-ghost use Rattle.std.specs.Prelude.{◌≡◌, ◌≢◌, [], None, Ok, Err, IsTrue, IfOk, IsErr, IfErr, OnOk, OnErr, MatchOption, MatchResult, true, false};
-ghost use Rattle.keys.specs.Step.{replies_to, map_after_all};
-ghost use Rattle.keys.specs.declared.fault.Fault.TheVariants.{NoMemory, Device, Failed};
-ghost use Rattle.mapping.specs.Levels.{contents};
-ghost use Rattle.climb_plan.specs.Plan.{plan};
-ghost use Rattle.flush_log.specs.Disk.{IsSynced, Kept, LeavesOnly};
-ghost use Rattle.recovery.specs.StoreOfDisk.{first_store};
-ghost use Rattle.engine.specs.Batch.{IsLaterFault, refusal_by};
-ghost use Rattle.engine.specs.Late.{IsLate, create_refusal, after_create, IsLeftCreating};
-ghost use Rattle.engine.specs.Refusal.{refusal, is_crew};
-ghost use Rattle.engine.specs.State.{IsSound};
-ghost use Rattle.engine.specs.Steps.{NumbersFit, batching};
-ghost use Rattle.engine.specs.Steps.Step.{Batch};
+ghost use Rattle.std.specs.Prelude.{◌≡◌, IfOk, IfErr};
+ghost use Rattle.keys.specs.declared.fault.Fault.TheVariants.{NoMemory};
+ghost use Rattle.engine.specs.Late.{IsCreatedOn, IsLeftCreating};
+ghost use Rattle.engine.specs.OneStep.{IsBatch};
+ghost use Rattle.engine.specs.Refusal.{is_crew};
 ghost use Rattle.verify.specs.Report.{report};
 
 mod clean;
@@ -81,30 +73,8 @@ impl<D: Disk> Store<D> {
     /// The first byte of the settings block is written last, after everything else is synced, and is then synced too.
     /// So a crash leaves the old contents of the disk, no store (`Fault::NotAStore`), or the new store.
     pub fn create(alloc: Global, disk: D, settings: Settings) -> Result<Store<D>, (Fault, D)>
-        // Which fault: the one for the settings or the size, else out of memory or a failed disk call.
-        ensures refused { MatchOption (create_refusal settings (D.view disk).size)
-            (IfErr result (λ e. IsLate (D.failed disk) (D.failed e.1) e.0))
-            (λ fault. IsErr result × IfErr result (λ e. e.0 ≡ fault)) }
-        ensures back { IfErr result
-            (λ e. Kept (D.view disk) (D.view e.1) × (e.0 ≢ Fault.Device → e.1 ≡ disk)) }
-
-        ensures made { IfOk result (λ made. (made.settings ≡ settings) × (made.store ≡ first_store)
-            × (made.has_failed ≡ false)) }
-        ensures contents { IfOk result (λ made. contents made.store.tree ≡ []) }
-        ensures kept { IfOk result
-            (λ made. Kept (D.view disk) (D.view made.disk) × (D.failed made.disk ≡ D.failed disk)) }
-        // On an honest disk: the new bytes, synced.
-        ensures bytes { IsTrue (D.view disk).is_honest →
-            IfOk result (λ made.
-            (after_create settings (D.view disk).seen ≡ Ok (made.store, (D.view made.disk).seen))
-            × IsSynced (D.view made.disk)) }
-        // On a synced disk, a crash at any moment leaves the old bytes, no store, or the new one.
-        ensures crash { IsSynced (D.view disk) → MatchResult result
-            (λ made. LeavesOnly (D.view disk) (D.view made.disk)
-            (IsLeftCreating settings (D.view disk).seen))
-            (λ e. LeavesOnly (D.view disk) (D.view e.1)
-            (IsLeftCreating settings (D.view disk).seen)) }
-        ensures sound { IfOk result (λ made. IsSound D.view made) }
+        ensures { IsCreatedOn D.view D.failed D.view (λ own. own) (λ bytes. bytes) settings disk
+            (IsLeftCreating settings (D.view disk).seen) result }
     {
         match create_hidden(alloc, disk, settings) {
             Ok(hidden) => reveal_store(hidden),
@@ -145,34 +115,8 @@ impl<D: Disk> Store<D> {
         gate: &impl Gate,
         commands: &[Command<Global>],
     ) -> Result<Vec<Reply<Global>>, Fault>
-        // The replies are those of an ordered map; the pages, the root, the height and the log states are those of the
-        // plan.
-        ensures replies { IfOk result
-            (λ replies. replies.items ≡ replies_to (contents self.old.store.tree) commands.now) }
-        ensures store { OnOk result
-            (self.new.store ≡ plan self.old.settings self.old.store commands.now) }
-        ensures contents { OnOk result (contents self.new.store.tree
-            ≡ map_after_all (contents self.old.store.tree) commands.now) }
-        ensures rest { (self.new.settings ≡ self.old.settings) × (self.new.disk ≡ self.old.disk)
-            × (self.new.has_failed ≡ self.old.has_failed) }
-
-        // Which fault, and that there are no other faults except for memory and for the height.
-        ensures failed { self.old.has_failed ≡ true → result ≡ Err Fault.Failed }
-        ensures bad_crew { self.old.has_failed ≡ false → is_crew crew ≡ false →
-            result ≡ Err Fault.BadCrew }
-        ensures refused { self.old.has_failed ≡ false → IsTrue (is_crew crew) →
-            MatchOption (refusal self.old.settings commands.now)
-            (IfErr result (IsLaterFault self.old.settings self.old.store.tree commands.now))
-            (λ fault. result ≡ Err fault) }
-        ensures unchanged { OnErr result (self.new ≡ self.old) }
-        // A batch that succeeds is refused by no rule, and its root's page id has 64 bits.
-        ensures allowed { OnOk result
-            ((refusal_by self.old.settings self.old.store.tree commands.now ≡ None)
-            × NumbersFit (batching self.old.settings) self.old.settings self.old.store
-            (Batch commands.now)) }
-
-        // The store was sound, and is so again.
-        ensures sound { IsSound D.view self.old × IsSound D.view self.new }
+        ensures { IsBatch D.view (is_crew crew) self.old commands.now result
+            (λ replies. replies.items) self.new }
     {
         // Only for the proof.
         a_batch_stays_in_step::<Global>();

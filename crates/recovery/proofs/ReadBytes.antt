@@ -5,8 +5,8 @@ use Rattle.std.proofs.lemmas.Bool.{false≢true}
 use Rattle.std.proofs.lemmas.List.{length-replicate}
 use Rattle.keys.specs.declared.fault.Fault.{Fault}
 use Rattle.keys.specs.declared.fault.Fault.TheVariants.{NoMemory, Device}
-use Rattle.flush_log.specs.Disk.{View, Lawful, Kept, Same}
-use Rattle.recovery.specs.Recovered.{IsReadOf, IsLate}
+use Rattle.flush_log.specs.Disk.{View, Lawful, Kept, Same, OnlyRead}
+use Rattle.recovery.specs.Recovered.{IsReadOf, IsLate, OnlyReads}
 
 -- ---- the first
 
@@ -121,3 +121,37 @@ counted_by (Err fault) old new same = tt
 pub late_by_memory : {X : Type 0} (r : Result X Fault) (old new : ℕ) → IfErr r (λ fault. fault ≡ NoMemory) → IfErr r (IsLate old new)
 late_by_memory (Ok x) old new refused = tt
 late_by_memory (Err fault) old new refused = inl refused
+
+-- ---- calls that only read
+
+module _ {D : Type 0} (view : D → View) (failed : D → ℕ) where
+  -- no disk call failed, whatever is returned
+  pub reads_without_failure : {X : Type 0} (a b : D) (r : Result X Fault) → Kept (view a) (view b) → OnlyRead (view a) (view b) → failed b ≡ failed a → OnlyReads view failed a b r
+  reads_without_failure a b r kept same count = record {
+    kept = kept;
+    same = same;
+    counted = counted_by r (failed a) (failed b) count;
+    uncounted = uncounted_by r (failed a) (failed b) count;
+  }
+
+  -- nothing was called
+  pub reads_nothing : {X : Type 0} (a : D) (r : Result X Fault) → OnlyReads view failed a a r
+  reads_nothing a r = reads_without_failure a a r (kept_self (view a)) (λ _. same_self (view a)) refl
+
+  -- the fault of a call is returned
+  pub reads_with_fault : {X Y : Type 0} (a b : D) (r : Result X Fault) (fault : Fault) → IsErrAnd r (λ f. f ≡ fault) → OnlyReads {X = Y} view failed a b (Err fault) → OnlyReads view failed a b r
+  reads_with_fault a b r fault is reads = record {
+    kept = reads.kept;
+    same = reads.same;
+    counted = not_ok r (failed b ≡ failed a) fault is;
+    uncounted = err_on r (IsUncounted (failed a) (failed b)) fault is reads.uncounted;
+  }
+
+  -- calls before this one only read, and none of them failed
+  pub reads_then : {X : Type 0} (a b c : D) (r : Result X Fault) → Kept (view a) (view b) → OnlyRead (view a) (view b) → failed b ≡ failed a → OnlyReads view failed b c r → OnlyReads view failed a c r
+  reads_then a b c r kept same count reads = record {
+    kept = kept_then (view a) (view b) (view c) kept reads.kept;
+    same = same_on (view a) (view b) (view c) kept same reads.same;
+    counted = counted_on r (failed a) (failed b) (failed c) count reads.counted;
+    uncounted = uncounted_on r (failed a) (failed b) (failed c) count reads.uncounted;
+  }

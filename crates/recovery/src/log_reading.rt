@@ -3,12 +3,11 @@ ghost use Rattle.std.specs.Prelude.{◌≡◌, ◌⊎◌, ℕ, ◌+◌, ◌-◌,
 ghost use Rattle.std.specs.List.{All};
 ghost use Rattle.keys.specs.Bytes.{Bytes};
 ghost use Rattle.keys.specs.Limits.{first_bad_field};
-ghost use Rattle.flush_log.specs.Disk.{Kept, OnlyRead, CountsNoOther};
 ghost use Rattle.flush_log.specs.Ends.{AreEnds};
 ghost use Rattle.flush_log.specs.Reading.{Found, read_earlier as earlier_segments, log_between};
 ghost use Rattle.flush_log.specs.Segments.{segments_begin, disk_size, last_segment, bytes_in_use};
 ghost use Rattle.recovery.specs.Gathered.{AreGathered, IsPartialLog};
-ghost use Rattle.recovery.specs.Recovered.{IsReadOf, IsLate};
+ghost use Rattle.recovery.specs.Recovered.{IsReadOf, IsLate, OnlyReads};
 ghost use Rattle.recovery.specs.Scan.{held_segment, scanned_after};
 ghost use Rattle.recovery.specs.declared.gather.Wanted as declared;
 
@@ -76,10 +75,7 @@ fn read_whole<'b, D: Disk>(
     ensures short { IfOk result
         (λ segments. All (λ g. length (held_segment g).bytes < 2 ^ 32) segments.items) }
     ensures err { IfErr result (IsLate (D.failed disk.old) (D.failed disk.new)) }
-    ensures kept { Kept (D.view disk.old) (D.view disk.new) }
-    ensures same { OnlyRead (D.view disk.old) (D.view disk.new) }
-    ensures counted { OnOk result (D.failed disk.new ≡ D.failed disk.old) }
-    ensures uncounted { CountsNoOther result (D.failed disk.old) (D.failed disk.new) }
+    ensures only_reads { OnlyReads D.view D.failed disk.old disk.new result }
 {
     let mut segments = Vec::with_capacity(alloc, count)?;
     let mut rest = buf;
@@ -118,10 +114,7 @@ fn read_last<'b, D: Disk>(
     ensures short { IfOk result
         (λ segments. All (λ g. length (held_segment g).bytes < 2 ^ 32) segments.items) }
     ensures err { IfErr result (IsLate (D.failed disk.old) (D.failed disk.new)) }
-    ensures kept { Kept (D.view disk.old) (D.view disk.new) }
-    ensures same { OnlyRead (D.view disk.old) (D.view disk.new) }
-    ensures counted { OnOk result (D.failed disk.new ≡ D.failed disk.old) }
-    ensures uncounted { CountsNoOther result (D.failed disk.old) (D.failed disk.new) }
+    ensures only_reads { OnlyReads D.view D.failed disk.old disk.new result }
 {
     let number = last_segment(&format.settings, ends.tail);
     let bytes = &mut buf[..bytes_in_use(format, ends)];
@@ -157,10 +150,7 @@ fn read_earlier<D: Disk>(
         now ends.now.head (last_segment format.now.settings ends.now.tail - ends.now.head))) }
     ensures room { length buffer.new.items ≡ length buffer.old.items }
     ensures err { IfErr result (IsLate (D.failed disk.old) (D.failed disk.new)) }
-    ensures kept { Kept (D.view disk.old) (D.view disk.new) }
-    ensures same { OnlyRead (D.view disk.old) (D.view disk.new) }
-    ensures counted { OnOk result (D.failed disk.new ≡ D.failed disk.old) }
-    ensures uncounted { CountsNoOther result (D.failed disk.old) (D.failed disk.new) }
+    ensures only_reads { OnlyReads D.view D.failed disk.old disk.new result }
 {
     let alloc = *buffer.allocator();
     let size = format.settings.seg_size as usize;
@@ -198,10 +188,7 @@ fn read_segments<D: Disk>(
         × OnOk result (IsPartialLog w so_far.new.gathering so_far.new.fault
         (log_between format.now now ends.now.head ends.now.tail)) }
     ensures err { IfErr result (IsLate (D.failed disk.old) (D.failed disk.new)) }
-    ensures kept { Kept (D.view disk.old) (D.view disk.new) }
-    ensures same { OnlyRead (D.view disk.old) (D.view disk.new) }
-    ensures counted { OnOk result (D.failed disk.new ≡ D.failed disk.old) }
-    ensures uncounted { CountsNoOther result (D.failed disk.old) (D.failed disk.new) }
+    ensures only_reads { OnlyReads D.view D.failed disk.old disk.new result }
 {
     let alloc = *buffer.allocator();
     read_earlier(rt, crew, disk, format, ends, buffer, so_far)?;
@@ -239,10 +226,7 @@ pub fn read_log<D: Disk>(
         × AreGathered format.now wanted g found)
         (λ fault. (log_between format.now now ends.now.head ends.now.tail ≡ Err fault)
         ⊎ IsLate (D.failed disk.old) (D.failed disk.new) fault) }
-    ensures kept { Kept (D.view disk.old) (D.view disk.new) }
-    ensures same { OnlyRead (D.view disk.old) (D.view disk.new) }
-    ensures counted { OnOk result (D.failed disk.new ≡ D.failed disk.old) }
-    ensures uncounted { CountsNoOther result (D.failed disk.old) (D.failed disk.new) }
+    ensures only_reads { OnlyReads D.view D.failed disk.old disk.new result }
 {
     let mut so_far = PartialLog::new(alloc, wanted);
     let at_once = segments_at_once(format, ends);

@@ -1,12 +1,11 @@
 //! Reads the settings of a disk and the slot of its store.
-ghost use Rattle.std.specs.Prelude.{◌≡◌, ◌⊎◌, ◌≤◌, true, length, take, drop, None, Ok, Err, MatchResult, IfOk, OnOk};
+ghost use Rattle.std.specs.Prelude.{◌≡◌, ◌⊎◌, ◌≤◌, true, length, take, drop, None, Ok, Err, MatchResult, IfOk};
 ghost use Rattle.keys.specs.Bytes.{Bytes};
 ghost use Rattle.keys.specs.Limits.{first_bad_field};
-ghost use Rattle.flush_log.specs.Disk.{Kept, OnlyRead, CountsNoOther};
 ghost use Rattle.flush_log.specs.Segments.{disk_size};
 ghost use Rattle.flush_log.specs.SettingsBlock.{settings_block_size, store_settings};
 ghost use Rattle.flush_log.specs.Slot.{slots_begin, is_slot, store_slot};
-ghost use Rattle.recovery.specs.Recovered.{IsReadOf, IsLate};
+ghost use Rattle.recovery.specs.Recovered.{IsReadOf, IsLate, OnlyReads};
 
 use crate::read_bytes::read;
 use flush_log::{
@@ -42,10 +41,7 @@ pub(crate) fn read_settings<D: Disk>(disk: &mut D) -> Result<Settings, Fault>
         ⊎ IsLate (D.failed disk.old) (D.failed disk.new) fault) }
     ensures good { IfOk result
         (λ s. (first_bad_field s ≡ None) × (disk_size s ≤ (D.view disk.old).size)) }
-    ensures kept { Kept (D.view disk.old) (D.view disk.new) }
-    ensures same { OnlyRead (D.view disk.old) (D.view disk.new) }
-    ensures counted { OnOk result (D.failed disk.new ≡ D.failed disk.old) }
-    ensures uncounted { CountsNoOther result (D.failed disk.old) (D.failed disk.new) }
+    ensures only_reads { OnlyReads D.view D.failed disk.old disk.new result }
 {
     let len = disk.len();
     if len < BLOCK_SIZE as u64 {
@@ -82,10 +78,7 @@ pub(crate) fn read_store_slot<D: Disk>(disk: &mut D, settings: &Settings) -> Res
         (λ fault. (store_slot settings.now now ≡ Err fault)
         ⊎ IsLate (D.failed disk.old) (D.failed disk.new) fault) }
     ensures slot { IfOk result (λ t. is_slot settings.now t.sequence t ≡ true) }
-    ensures kept { Kept (D.view disk.old) (D.view disk.new) }
-    ensures same { OnlyRead (D.view disk.old) (D.view disk.new) }
-    ensures counted { OnOk result (D.failed disk.new ≡ D.failed disk.old) }
-    ensures uncounted { CountsNoOther result (D.failed disk.old) (D.failed disk.new) }
+    ensures only_reads { OnlyReads D.view D.failed disk.old disk.new result }
 {
     let mut slots = [0; 2 * SLOT_SIZE];
     read(disk, SLOTS_BEGIN, &mut slots)?;

@@ -1,10 +1,9 @@
 //! Recovery: reads a store from the bytes of a disk, or finds their single fault.
-ghost use Rattle.std.specs.Prelude.{◌≡◌, ◌⊎◌, None, Ok, Err, IfOk, MatchResult, OnOk};
+ghost use Rattle.std.specs.Prelude.{◌≡◌, ◌⊎◌, None, Ok, Err, IfOk, MatchResult};
 ghost use Rattle.keys.specs.Bytes.{Bytes};
 ghost use Rattle.keys.specs.Limits.{first_bad_field};
 ghost use Rattle.mapping.specs.TreeInMemory.{AreAllHome};
-ghost use Rattle.flush_log.specs.Disk.{Kept, OnlyRead, CountsNoOther};
-ghost use Rattle.recovery.specs.Recovered.{IsReadOf, IsLate, IsLogRead, store_recovered};
+ghost use Rattle.recovery.specs.Recovered.{IsReadOf, IsLate, OnlyReads, IsLogRead, store_recovered};
 ghost use Rattle.recovery.specs.StoreOfDisk.{store_of_disk};
 
 use crate::build_tree::checked_tree;
@@ -50,10 +49,7 @@ fn read_parts<D: Disk>(
         (λ fault. (store_of_disk file ≡ Err fault)
         ⊎ IsLate (D.failed disk.old) (D.failed disk.new) fault) }
     ensures good { IfOk result (λ read. first_bad_field read.format.settings ≡ None) }
-    ensures same { OnlyRead (D.view disk.old) (D.view disk.new) }
-    ensures kept { Kept (D.view disk.old) (D.view disk.new) }
-    ensures counted { OnOk result (D.failed disk.new ≡ D.failed disk.old) }
-    ensures uncounted { CountsNoOther result (D.failed disk.old) (D.failed disk.new) }
+    ensures only_reads { OnlyReads D.view D.failed disk.old disk.new result }
 {
     let settings = read_settings(disk)?;
     let slot = read_store_slot(disk, &settings)?;
@@ -92,11 +88,7 @@ pub fn recover<D: Disk>(
         × AreAllHome found.tree)
         (λ fault. (store_of_disk file ≡ Err fault)
         ⊎ IsLate (D.failed disk.old) (D.failed disk.new) fault) }
-    // Neither the bytes changed, nor what a crash may leave.
-    ensures same { OnlyRead (D.view disk.old) (D.view disk.new) }
-    ensures kept { Kept (D.view disk.old) (D.view disk.new) }
-    ensures counted { OnOk result (D.failed disk.new ≡ D.failed disk.old) }
-    ensures uncounted { CountsNoOther result (D.failed disk.old) (D.failed disk.new) }
+    ensures only_reads { OnlyReads D.view D.failed disk.old disk.new result }
 {
     let LogRead {
         format,

@@ -1,11 +1,8 @@
 //! Many cleans in sequence, with one reading of the log.
-ghost use Rattle.std.specs.Prelude.{◌≡◌, ◌≢◌, ◌⊎◌, ℕ, ◌+◌, ◌-◌, ◌<◌, ◌≤◌, None, Some, Ok, Err, IsTrue, IfOk, IfErr, MatchResult, min, true, false};
-ghost use Rattle.keys.specs.Bytes.{Bytes};
-ghost use Rattle.flush_log.specs.Segments.{last_segment};
-ghost use Rattle.engine.specs.Cleaning.{IsCleanRefusedOn, IsOfMachine};
-ghost use Rattle.engine.specs.Cleans.{AreCleaned, AreStopped, IsReadFor, IsOnlyRead, IsDoneClean, IsRefusedClean, IsCleanedOn, IsStoppedOn};
-ghost use Rattle.engine.specs.Refusal.{is_crew};
-ghost use Rattle.engine.specs.Room.{live_known};
+ghost use Rattle.std.specs.Prelude.{◌≡◌, ◌≢◌, ◌⊎◌, ℕ, ◌+◌, ◌-◌, ◌<◌, ◌≤◌, Ok, Err, IsTrue, IfOk, IfErr, MatchResult, false};
+ghost use Rattle.engine.specs.Cleaning.{AreDoneBy, AreStoppedBy, IsReadAhead};
+ghost use Rattle.engine.specs.Cleans.{AreCleaned, AreStopped, IsReadFor, IsDoneClean, IsRefusedClean, IsCleanedOn, IsStoppedOn};
+ghost use Rattle.engine.specs.Refusal.{IsAdmitted, is_crew};
 ghost use Rattle.engine.specs.State.{IsSound};
 
 use crate::refusal::admit_crew;
@@ -48,19 +45,7 @@ impl<D: Disk> Store<D> {
     ) -> Result<Reading, Fault>
         requires fine { self.old.has_failed ≡ false }
         requires some { 0 < count }
-        ensures read { IfOk result (λ reading. IsOnlyRead D.view D.failed self.old self.new
-            × IsReadFor D.view self.new reading × (self.new.store.head < reading.limit)) }
-        ensures limit { IfOk result (λ reading. reading.limit ≡ self.old.store.head
-            + min count (last_segment self.old.settings self.old.store.tail - self.old.store.head)) }
-        ensures refused { IfErr result (IsRefusedClean D.view D.failed self.old self.new) }
-        // The number of live bytes. If the log is refused because of its contents, it is damaged.
-        ensures live { (file : Bytes) ×
-            (IsTrue (D.view self.old.disk).is_honest → file ≡ (D.view self.old.disk).seen) ×
-            MatchResult result
-            (λ reading. live_known self.old.settings self.old.store file ≡ Some reading.live)
-            (λ fault. (fault ≡ Fault.NothingToClean) ⊎ (fault ≡ Fault.NoMemory)
-            ⊎ (fault ≡ Fault.Device)
-            ⊎ (live_known self.old.settings self.old.store file ≡ None)) }
+        ensures { IsReadAhead D.view D.failed self.old count result self.new }
     {
         let format = Format {
             settings: self.settings,
@@ -125,14 +110,10 @@ impl<D: Disk> Store<D> {
         requires read { IsReadFor D.view self.old reading.old }
         requires next { self.old.store.head < reading.old.limit }
         requires some { 0 < most }
-        ensures done { IfOk result (λ n. (0 < n) × (n ≤ most)
-            × (n ≡ min most (reading.old.limit - self.old.store.head))
-            × IsCleanedOn D.view D.failed self.old n self.new) }
-        ensures stopped { IfErr result (λ e. (e.0 < most)
-            × (e.0 < reading.old.limit - self.old.store.head)
-            × (e.0 ≡ 0 → self.new.store ≡ self.old.store)
-            × IsStoppedOn D.view D.failed self.old e.0 e.1 self.new
-            × (IsOfMachine e.1 ⊎ IsCleanRefusedOn D.view self.new)) }
+        ensures done { IfOk result (AreDoneBy D.view D.failed self.old most
+            (reading.old.limit - self.old.store.head) self.new) }
+        ensures stopped { IfErr result (AreStoppedBy D.view D.failed self.old most
+            (reading.old.limit - self.old.store.head) self.new) }
     {
         let mut done = 0;
         'each: loop {
@@ -189,10 +170,7 @@ impl<D: Disk> Store<D> {
             × AreCleaned D.view D.failed self.old n self.new) }
 
         // Which fault, and the state after it: the first clean failed, or a call of the disk failed in a later one.
-        ensures failed { self.old.has_failed ≡ true →
-            (result ≡ Err Fault.Failed) × (self.new ≡ self.old) }
-        ensures bad_crew { self.old.has_failed ≡ false → is_crew crew ≡ false →
-            (result ≡ Err Fault.BadCrew) × (self.new ≡ self.old) }
+        ensures admitted { IsAdmitted (is_crew crew) self.old result self.new }
         ensures refused { self.old.has_failed ≡ false → IsTrue (is_crew crew) →
             IfErr result (λ fault. (n : ℕ) × (n < most) × ((n ≡ 0) ⊎ (fault ≡ Fault.Device))
             × AreStopped D.view D.failed self.old self.new n fault) }

@@ -1,12 +1,13 @@
 //! The flush that makes itself room: it cleans if the log is tight or full, and compacts a bloated store.
-ghost use Rattle.std.specs.Prelude.{◌≡◌, ◌≢◌, ◌⊎◌, ◌↔◌, ◌+◌, ℕ, ◌<◌, ◌≤◌, [], None, Ok, Err, IsTrue, IfOk, OnOk, IfErr, IfSome, MatchResult, ◌&&◌, min, nat_le, true, false};
+ghost use Rattle.std.specs.Prelude.{◌≡◌, ◌≢◌, ◌⊎◌, ◌↔◌, ◌+◌, ⊤, ℕ, ◌<◌, ◌≤◌, [], None, Ok, Err, IsTrue, IfOk, OnOk, IfErr, IfSome, MatchResult, ◌&&◌, min, nat_le, true, false};
 ghost use Rattle.flush_log.specs.FlushText.{flush_frames};
 ghost use Rattle.keys.specs.declared.fault.Fault.TheVariants.{NoMemory};
 ghost use Rattle.mapping.specs.Levels.{contents};
-ghost use Rattle.engine.specs.Cleaning.{IsCalmOn, IsCleanRefusedOn, IsEarly, IsFlushedCleaning, IsHeld, IsNoReading, IsOfBytes, IsOfMachine, IsStart, IsStoppedCleaning, IsWantOfRoom, IsWhole, most_ahead, most_cleanable};
-ghost use Rattle.engine.specs.Cleans.{IsCleanedOn, IsOnlyRead, IsRefusedClean, IsStoppedOn};
-ghost use Rattle.engine.specs.Refusal.{is_crew};
-ghost use Rattle.engine.specs.Room.{is_overfull, is_tight, is_worth};
+ghost use Rattle.engine.specs.Cleaning.{IsCalmOn, IsCleanRefusedOn, IsDoneEarly, IsDueAndTight, IsEarlyRow, IsEarlyStop, IsFlushedCleaning, IsHeld, IsNoReading, IsOfMachine, IsRowDone, IsRowReady, IsRowStopped, IsStart, IsStoppedCleaning, IsStoppedEarly, IsWantOfRoom, IsWhole, MayHelp, most_ahead};
+ghost use Rattle.engine.specs.Cleans.{IsCleanedOn, IsRefusedClean};
+ghost use Rattle.engine.specs.OneStep.{IsOnlyRead};
+ghost use Rattle.engine.specs.Refusal.{IsAdmitted, is_crew};
+ghost use Rattle.engine.specs.Room.{is_overfull};
 ghost use Rattle.engine.specs.State.{State, IsSound};
 
 use crate::refusal::admit_crew;
@@ -74,8 +75,7 @@ fn early_refusal(fault: Fault) -> Result<(u64, Option<Reading>), Fault>
 impl<D: Disk> Store<D> {
     // Returns whether the log is tight while a flush is due.
     fn may_clean_early(&self) -> bool
-        ensures { IsTrue result ↔ ((is_tight self.now.settings self.now.store ≡ true)
-            × (flush_frames self.now.store.version self.now.store.tree ≢ [])) }
+        ensures { IsTrue result ↔ IsDueAndTight self.now.settings self.now.store }
     {
         self.is_tight() && self.is_flush_due()
     }
@@ -109,9 +109,8 @@ impl<D: Disk> Store<D> {
         crew: Crew,
         reading: &Reading,
     ) -> Result<bool, Fault>
-        ensures exact { IfOk result (λ helps. IsTrue helps ↔
-            ((is_worth self.now.settings self.now.store reading.now.live ≡ true)
-            × (is_overfull self.now.settings self.now.store reading.now.live ≡ false))) }
+        ensures exact { IfOk result (λ helps. IsTrue helps
+            ↔ MayHelp self.now.settings self.now.store reading.now.live) }
         ensures err { IfErr result (λ fault. fault ≡ NoMemory) }
     {
         if !self.is_worth_cleaning(reading) {
@@ -124,18 +123,9 @@ impl<D: Disk> Store<D> {
     // Does a row of cleans by this reading, and returns how many. If a clean is refused after the first, that ends the row, and is no error
     // unless it ends the flush.
     fn clean_row(&mut self, reading: Reading, most: u64) -> Result<u64, Fault>
-        requires fine { self.old.has_failed ≡ false }
-        requires held { IsHeld D.view self.old reading }
-        requires some { 0 < most }
-        requires few { most ≤ most_ahead self.old.settings }
-        ensures done { IfOk result (λ n. (0 < n) × (n ≤ most)
-            × IsCleanedOn D.view D.failed self.old n self.new
-            × IsWhole D.view self.old most n self.new) }
-        ensures stopped { IfErr result (λ fault. (n : ℕ) × (n < most)
-            × (n ≤ most_cleanable self.old.settings self.old.store)
-            × (((n ≡ 0) × (self.new.store ≡ self.old.store)) ⊎ IsOfMachine fault)
-            × IsStoppedOn D.view D.failed self.old n fault self.new
-            × (IsOfMachine fault ⊎ IsCleanRefusedOn D.view self.new)) }
+        requires ready { IsRowReady D.view self.old reading most }
+        ensures done { IfOk result (IsRowDone D.view D.failed self.old most self.new) }
+        ensures stopped { IfErr result (IsRowStopped D.view D.failed self.old most self.new) }
     {
         let mut reading = reading;
         match self.clean_all_read(&mut reading, most) {
@@ -150,18 +140,10 @@ impl<D: Disk> Store<D> {
         reading: Reading,
         most: u64,
     ) -> Result<(u64, Option<Reading>), Fault>
-        requires fine { self.old.has_failed ≡ false }
-        requires held { IsHeld D.view self.old reading }
-        requires some { 0 < most }
-        requires few { most ≤ most_ahead self.old.settings }
-        ensures done { IfOk result (λ e. (e.0 ≤ most)
-            × IsCleanedOn D.view D.failed self.old e.0 self.new
-            × (0 < e.0 → IsWhole D.view self.old most e.0 self.new)
-            × (e.0 ≡ 0 → IsCleanRefusedOn D.view self.new)
-            × IfSome e.1 (IsHeld D.view self.new)) }
-        ensures stopped { IfErr result (λ fault. IsOfMachine fault × (n : ℕ) × (n < most)
-            × (n ≤ most_cleanable self.old.settings self.old.store)
-            × IsStoppedOn D.view D.failed self.old n fault self.new) }
+        requires ready { IsRowReady D.view self.old reading most }
+        ensures done { IfOk result (IsEarlyRow D.view D.failed ⊤ (IsCleanRefusedOn D.view self.new)
+            self.old most self.new) }
+        ensures stopped { IfErr result (IsEarlyStop D.view D.failed ⊤ self.old most self.new) }
     {
         match self.clean_row(reading, most) {
             Ok(cleaned) => Ok((cleaned, None)),
@@ -177,22 +159,12 @@ impl<D: Disk> Store<D> {
         reading: Reading,
         most: u64,
     ) -> Result<(u64, Option<Reading>), Fault>
-        requires fine { self.old.has_failed ≡ false }
-        requires held { IsHeld D.view self.old reading }
-        requires some { 0 < most }
-        requires few { most ≤ most_ahead self.old.settings }
-        ensures done { IfOk result (λ e. (e.0 ≤ most)
-            × IsCleanedOn D.view D.failed self.old e.0 self.new
-            × (0 < e.0 → (is_worth self.old.settings self.old.store reading.live ≡ true)
-            × (is_overfull self.old.settings self.old.store reading.live ≡ false)
-            × IsWhole D.view self.old most e.0 self.new)
-            × (e.0 ≡ 0 → IsCalmOn D.view self.old)
-            × IfSome e.1 (IsHeld D.view self.new)) }
-        ensures stopped { IfErr result (λ fault. IsOfMachine fault × (n : ℕ) × (n < most)
-            × (n ≤ most_cleanable self.old.settings self.old.store)
-            × (0 < n → (is_worth self.old.settings self.old.store reading.live ≡ true)
-            × (is_overfull self.old.settings self.old.store reading.live ≡ false))
-            × IsStoppedOn D.view D.failed self.old n fault self.new) }
+        requires ready { IsRowReady D.view self.old reading most }
+        ensures done { IfOk result (IsEarlyRow D.view D.failed
+            (MayHelp self.old.settings self.old.store reading.live) (IsCalmOn D.view self.old)
+            self.old most self.new) }
+        ensures stopped { IfErr result (IsEarlyStop D.view D.failed
+            (MayHelp self.old.settings self.old.store reading.live) self.old most self.new) }
     {
         // Only for the proof.
         let _settings = self.settings;
@@ -210,19 +182,10 @@ impl<D: Disk> Store<D> {
         most: u64,
     ) -> Result<(u64, Option<Reading>), Fault>
         requires fine { self.old.has_failed ≡ false }
-        requires due { (is_tight self.old.settings self.old.store ≡ true)
-            × (flush_frames self.old.store.version self.old.store.tree ≢ []) }
+        requires due { IsDueAndTight self.old.settings self.old.store }
         requires most { most ≡ most_ahead self.old.settings }
-        ensures done { IfOk result (λ e. (e.0 ≤ most)
-            × IsCleanedOn D.view D.failed self.old e.0 self.new
-            × (0 < e.0 → IsOfBytes D.view self.old IsEarly
-            × IsWhole D.view self.old most e.0 self.new)
-            × (e.0 ≡ 0 → IsCalmOn D.view self.old)
-            × IfSome e.1 (IsHeld D.view self.new)) }
-        ensures stopped { IfErr result (λ fault. IsOfMachine fault × (n : ℕ) × (n < most)
-            × (n ≤ most_cleanable self.old.settings self.old.store)
-            × (0 < n → IsOfBytes D.view self.old IsEarly)
-            × IsStoppedOn D.view D.failed self.old n fault self.new) }
+        ensures done { IfOk result (IsDoneEarly D.view D.failed self.old most self.new) }
+        ensures stopped { IfErr result (IsStoppedEarly D.view D.failed self.old most self.new) }
     {
         match self.read_ahead(rt, crew, most) {
             Ok(reading) => self.clean_if_worth(rt, crew, reading, most),
@@ -240,16 +203,8 @@ impl<D: Disk> Store<D> {
     ) -> Result<(u64, Option<Reading>), Fault>
         requires fine { self.old.has_failed ≡ false }
         requires most { most ≡ most_ahead self.old.settings }
-        ensures done { IfOk result (λ e. (e.0 ≤ most)
-            × IsCleanedOn D.view D.failed self.old e.0 self.new
-            × (0 < e.0 → IsOfBytes D.view self.old IsEarly
-            × IsWhole D.view self.old most e.0 self.new)
-            × (e.0 ≡ 0 → IsCalmOn D.view self.old)
-            × IfSome e.1 (IsHeld D.view self.new)) }
-        ensures stopped { IfErr result (λ fault. IsOfMachine fault × (n : ℕ) × (n < most)
-            × (n ≤ most_cleanable self.old.settings self.old.store)
-            × (0 < n → IsOfBytes D.view self.old IsEarly)
-            × IsStoppedOn D.view D.failed self.old n fault self.new) }
+        ensures done { IfOk result (IsDoneEarly D.view D.failed self.old most self.new) }
+        ensures stopped { IfErr result (IsStoppedEarly D.view D.failed self.old most self.new) }
     {
         if self.may_clean_early() {
             return self.read_and_clean(rt, crew, most);
@@ -311,12 +266,8 @@ impl<D: Disk> Store<D> {
         ensures done { IfOk result (λ more. (n : ℕ) × (0 < n) × (more + n ≡ left)
             × IsCleanedOn D.view D.failed self.old n self.new
             × IsWhole D.view self.old (min (most_ahead self.old.settings) left) n self.new) }
-        ensures stopped { IfErr result (λ fault. (n : ℕ)
-            × (n < min (most_ahead self.old.settings) left)
-            × (n ≤ most_cleanable self.old.settings self.old.store)
-            × (((n ≡ 0) × (self.new.store ≡ self.old.store)) ⊎ IsOfMachine fault)
-            × IsStoppedOn D.view D.failed self.old n fault self.new
-            × (IsOfMachine fault ⊎ IsCleanRefusedOn D.view self.new)) }
+        ensures stopped { IfErr result (IsRowStopped D.view D.failed self.old
+            (min (most_ahead self.old.settings) left) self.new) }
     {
         let most = self.most_ahead().min(left);
         let cleaned = self.clean_row(reading, most)?;
@@ -381,10 +332,7 @@ impl<D: Disk> Store<D> {
             × IsFlushedCleaning D.view D.failed start self.new) }
 
         // Which fault, and what it leaves: rows of cleans of the same, as a play of them does.
-        ensures failed { self.old.has_failed ≡ true →
-            (result ≡ Err Fault.Failed) × (self.new ≡ self.old) }
-        ensures bad_crew { self.old.has_failed ≡ false → is_crew crew ≡ false →
-            (result ≡ Err Fault.BadCrew) × (self.new ≡ self.old) }
+        ensures admitted { IsAdmitted (is_crew crew) self.old result self.new }
         ensures refused { self.old.has_failed ≡ false → IsTrue (is_crew crew) →
             IfErr result (λ fault. (start : State D) × IsStart self.old start
             × IsStoppedCleaning D.view D.failed start self.new fault) }

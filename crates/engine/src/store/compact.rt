@@ -1,21 +1,22 @@
 //! Compaction: builds the tree again from its pairs, with as few leaves as these need.
-ghost use Rattle.std.specs.Prelude.{◌≡◌, ◌⊎◌, ◌≤◌, ◌<◌, ◌+◌, ◌-◌, ◌*◌, ◌/◌, ◌^◌, ◌++◌, ◌∷◌, ◌&&◌, ℕ, List, [], length, None, Some, Err, IsTrue, IfOk, IfSome, OnOk, IfErr, OnErr, true, false};
+ghost use Rattle.std.specs.Prelude.{◌≡◌, ◌⊎◌, ◌≤◌, ◌<◌, ◌+◌, ◌-◌, ◌*◌, ◌/◌, ◌^◌, ◌++◌, ◌∷◌, ◌&&◌, ℕ, List, [], length, None, Some, IsTrue, IfOk, IfSome, OnOk, IfErr, OnErr, false};
 ghost use Rattle.std.specs.Map.{keys_of};
 ghost use Rattle.keys.specs.Bytes.{Bytes};
 ghost use Rattle.keys.specs.declared.fault.Fault.TheVariants.{NoMemory};
 ghost use Rattle.keys.specs.declared.settings.Settings.{Settings};
 ghost use Rattle.mapping.specs.FreshPids.{is_among};
-ghost use Rattle.mapping.specs.Levels.{contents, levels_of};
-ghost use Rattle.mapping.specs.Proper.{AreLevels, AreLogsTrue, AreRisingPids, HoldsItsLevels};
+ghost use Rattle.mapping.specs.Levels.{contents};
+ghost use Rattle.mapping.specs.Proper.{AreLogsTrue, AreRisingPids};
 ghost use Rattle.mapping.specs.Table.{log_of, pids_in_use_or_old};
 ghost use Rattle.mapping.specs.Tree as definitions;
 ghost use Rattle.mapping.specs.Tree.{most_levels, with_tree};
 ghost use Rattle.mapping.specs.TreeInMemory.{AreAllHome, tree_of};
 ghost use Rattle.recovery.specs.InStep.{IsStore, IsStoreOf};
-ghost use Rattle.engine.specs.Compacted.{AreFreed, HasLeavesAt, IsCompactFault, IsCompacted, all_puts, compacted, is_logged, no_pairs, outdated_tree};
-ghost use Rattle.engine.specs.Refusal.{is_crew};
+ghost use Rattle.engine.specs.Compacted.{AreFreed, HasLeavesAt, IsCompactFault, IsCompacted, IsCompactedIfBloated, all_puts, compacted, is_logged, no_pairs, outdated_tree};
+ghost use Rattle.engine.specs.Refusal.{IsAdmitted, is_crew};
 ghost use Rattle.engine.specs.Room.{is_bloated, is_two_thirds_full};
-ghost use Rattle.engine.specs.SoundTree.{IsSoundInMemory};
+ghost use Rattle.engine.specs.SoundTree.{IsReadable, IsSoundInMemory};
+ghost use Rattle.engine.specs.State.{IsOnlyInMemory};
 ghost use Rattle.engine.specs.Tidied.{counted_pages};
 
 use crate::execute::execute;
@@ -174,10 +175,8 @@ fn outdated_tree(alloc: Global, tree: &Tree<Global>) -> Result<Tree<Global>, All
 
 // Puts of all pairs of a tree.
 fn all_puts(alloc: Global, tree: &Tree<Global>) -> Result<Vec<Command<Global>>, AllocError>
-    requires home { AreAllHome tree.now }
+    requires readable { IsReadable tree.now }
     requires height { tree.now.height ≤ most_levels }
-    requires held { HoldsItsLevels (tree_of tree.now) }
-    requires levels { AreLevels (levels_of (tree_of tree.now)) }
     ensures { IfOk result (λ puts. puts.items ≡ all_puts (tree_of tree.now)) }
 {
     let mut puts = Vec::new(alloc);
@@ -340,12 +339,8 @@ impl<D: Disk> Store<D> {
     ) -> Result<(), Fault>
         requires fine { self.old.has_failed ≡ false }
         requires crew { IsTrue (is_crew crew) }
-        ensures compacted { OnOk result ((self.new ≡ self.old)
-            ⊎ (IsTrue (is_two_thirds_full self.old.settings self.old.store)
-            × IsTrue (is_bloated self.old.settings self.old.store.tree)
-            × IsCompacted self.old.settings self.old.store self.new.store)) }
-        ensures rest { (self.new.settings ≡ self.old.settings) × (self.new.disk ≡ self.old.disk)
-            × (self.new.has_failed ≡ self.old.has_failed) }
+        ensures compacted { OnOk result (IsCompactedIfBloated self.old self.new) }
+        ensures rest { IsOnlyInMemory self.old self.new }
         ensures err { IfErr result (λ fault. fault ≡ NoMemory) }
         ensures unchanged { OnErr result (self.new ≡ self.old) }
     {
@@ -373,13 +368,10 @@ impl<D: Disk> Store<D> {
             (IsCompacted self.old.settings self.old.store self.new.store) }
         ensures pages { IfOk result (λ count.
             count ≡ counted_pages self.old.store.tree - counted_pages self.new.store.tree) }
-        ensures rest { (self.new.settings ≡ self.old.settings) × (self.new.disk ≡ self.old.disk)
-            × (self.new.has_failed ≡ self.old.has_failed) }
+        ensures rest { IsOnlyInMemory self.old self.new }
         ensures unchanged { OnErr result (self.new ≡ self.old) }
 
-        ensures failed { self.old.has_failed ≡ true → result ≡ Err Fault.Failed }
-        ensures bad_crew { self.old.has_failed ≡ false → is_crew crew ≡ false →
-            result ≡ Err Fault.BadCrew }
+        ensures admitted { IsAdmitted (is_crew crew) self.old result self.new }
         ensures refused { self.old.has_failed ≡ false → IsTrue (is_crew crew) →
             IfErr result (IsCompactFault self.old.settings self.old.store.tree) }
     {

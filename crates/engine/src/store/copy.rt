@@ -1,22 +1,19 @@
 //! The copy: a new store on another disk, under settings of its own, with the same contents.
-ghost use Rattle.std.specs.Prelude.{◌≡◌, ◌≢◌, ◌⊎◌, ◌<◌, ◌≤◌, ◌++◌, ◌∷◌, [], None, Some, Err, Ok, IsTrue, IfOk, IfErr, IsErr, OnOk, MatchOption, MatchResult, length, take, false};
+ghost use Rattle.std.specs.Prelude.{◌≡◌, ◌≢◌, ◌⊎◌, ◌≤◌, ◌++◌, ◌∷◌, [], None, Err, IsTrue, IfOk, IfErr, IsErr, OnOk, MatchOption, take, false};
 ghost use Rattle.std.specs.Option.{option_copied};
 ghost use Rattle.keys.specs.Bytes.{Bytes, Pairs};
 ghost use Rattle.keys.specs.Order.{IsRising};
-ghost use Rattle.mapping.specs.Levels.{contents, levels_of};
-ghost use Rattle.mapping.specs.Proper.{AreLevels, HoldsItsLevels};
-ghost use Rattle.mapping.specs.Tree.{most_levels, with_tree};
-ghost use Rattle.mapping.specs.TreeInMemory.{AreAllHome, tree_of};
-ghost use Rattle.flush_log.specs.Disk.{IsSynced, Kept, LeavesOnly};
+ghost use Rattle.mapping.specs.Levels.{contents};
+ghost use Rattle.mapping.specs.Tree.{most_levels};
+ghost use Rattle.mapping.specs.TreeInMemory.{tree_of};
+ghost use Rattle.flush_log.specs.Disk.{IsSynced};
 ghost use Rattle.flush_log.specs.NewStore.{disk_of_new};
-ghost use Rattle.recovery.specs.StoreOfDisk.{first_store, store_of_disk};
-ghost use Rattle.keys.specs.declared.fault.Fault.TheVariants.{NoMemory};
-ghost use Rattle.engine.specs.Batches.{tree_in_turn};
-ghost use Rattle.engine.specs.Copies.{HoldsSomeStore, IsBegun, IsCopied, IsCopyFault, IsLeftCopying, IsLeftFilling, IsPutOn, IsPutRefused, after_filling, batches_of, last_key, most_puts, put_of, puts_of, refused_in_turn};
+ghost use Rattle.recovery.specs.StoreOfDisk.{store_of_disk};
+ghost use Rattle.engine.specs.Copies.{ArePutInto, HoldsSomeStore, IsBegun, IsCopyFault, IsCopyOn, IsFilling, IsFresh, IsLeftCopying, IsLeftFilling, IsNextPut, last_key, most_puts, put_of, puts_of, with_store};
 ghost use Rattle.engine.specs.Hidden.{exchanged};
 ghost use Rattle.engine.specs.Late.{create_refusal};
 ghost use Rattle.engine.specs.Refusal.{is_crew};
-ghost use Rattle.engine.specs.State.{IsSound};
+ghost use Rattle.engine.specs.SoundTree.{IsReadable};
 
 use crate::hidden_disk::Hidden;
 use crate::refusal::admit_crew;
@@ -67,10 +64,8 @@ pub(super) fn push_put(
 
 // The first rows after this key, or of all where there is none, as many as are put in one batch.
 fn rows_after<'a>(alloc: Global, tree: &'a Tree<Global>, last: Option<&'a [u8]>) -> Rows<'a>
-    requires home { AreAllHome tree.now }
+    requires readable { IsReadable tree.now }
     requires height { tree.now.height ≤ most_levels }
-    requires held { HoldsItsLevels (tree_of tree.now) }
-    requires levels { AreLevels (levels_of (tree_of tree.now)) }
     requires rising { IsRising (contents (tree_of tree.now)) }
     ensures { (some left : Pairs Bytes) → some ++ left ≡ contents (tree_of tree.now) →
         last_key None some ≡ option_copied last.entry → result ≡ take most_puts left }
@@ -98,22 +93,7 @@ impl<D: Disk> Store<D> {
             (option_copied last) }
         requires fine { copy.old.has_failed ≡ false }
         requires crew { IsTrue (is_crew crew) }
-        ensures further { IfOk result
-            (λ end. MatchOption end (contents copy.new.store.tree ≡ contents self.now.store.tree)
-            (λ key. IsBegun (contents self.now.store.tree)
-            (contents copy.new.store.tree) (Some key.now)
-            × (length (contents copy.old.store.tree) < length (contents copy.new.store.tree)))) }
-        ensures log { OnOk result (copy.new.store ≡ with_tree copy.old.store copy.new.store.tree) }
-        ensures rest { (copy.new.settings ≡ copy.old.settings) × (copy.new.disk ≡ copy.old.disk)
-            × (copy.new.has_failed ≡ copy.old.has_failed) }
-        // Which pairs are left decides all: the first piece of them is put, or why it is refused.
-        ensures tree { (left : Pairs Bytes) →
-            contents copy.old.store.tree ++ left ≡ contents self.now.store.tree →
-            IfOk result (λ end. MatchOption end (copy.new ≡ copy.old) (λ key.
-            IsPutOn copy.old.settings copy.old.store.tree left copy.new.store.tree)) }
-        ensures refused { (left : Pairs Bytes) →
-            contents copy.old.store.tree ++ left ≡ contents self.now.store.tree →
-            IfErr result (IsPutRefused copy.old.settings copy.old.store.tree left) }
+        ensures { IsNextPut (contents self.now.store.tree) copy.old result copy.new }
     {
         // Only for the proof.
         the_contents_of_a_proper_tree_rise();
@@ -138,19 +118,7 @@ impl<D: Disk> Store<D> {
         requires empty { contents copy.old.store.tree ≡ [] }
         requires fine { copy.old.has_failed ≡ false }
         requires crew { IsTrue (is_crew crew) }
-        ensures contents { OnOk result
-            (contents copy.new.store.tree ≡ contents self.now.store.tree) }
-        ensures log { OnOk result (copy.new.store ≡ with_tree copy.old.store copy.new.store.tree) }
-        ensures rest { (copy.new.settings ≡ copy.old.settings) × (copy.new.disk ≡ copy.old.disk)
-            × (copy.new.has_failed ≡ copy.old.has_failed) }
-        ensures tree { OnOk result (
-            (copy.new.store.tree ≡ tree_in_turn copy.old.settings copy.old.store.tree
-            (batches_of (contents self.now.store.tree)))
-            × (refused_in_turn copy.old.settings copy.old.store.tree
-            (batches_of (contents self.now.store.tree)) ≡ None)) }
-        ensures refused { IfErr result (λ fault. (fault ≡ NoMemory)
-            ⊎ (refused_in_turn copy.old.settings copy.old.store.tree
-            (batches_of (contents self.now.store.tree)) ≡ Some fault)) }
+        ensures { ArePutInto (contents self.now.store.tree) copy.old result copy.new }
     {
         let mut last = None;
         'batches: loop {
@@ -168,32 +136,12 @@ impl<D: Disk> Store<D> {
         crew: Crew,
         copy: &mut Store<E>,
     ) -> Result<(), Fault>
-        requires first { copy.old.store ≡ first_store }
-        requires empty { contents copy.old.store.tree ≡ [] }
-        requires fine { copy.old.has_failed ≡ false }
-        requires sound { IsSound E.view copy.old }
+        requires fresh { IsFresh E.view copy.old }
         requires crew { IsTrue (is_crew crew) }
-        ensures contents { OnOk result
-            (contents copy.new.store.tree ≡ contents self.now.store.tree) }
-        ensures exact { OnOk result (IsCopied copy.old.settings (contents self.now.store.tree)
-            copy.new.store) }
-        ensures written { IsTrue (E.view copy.old.disk).is_honest → OnOk result (
-            after_filling copy.old.settings (contents self.now.store.tree) (E.view copy.old.disk).seen
-            ≡ Ok (copy.new.store, (E.view copy.new.disk).seen)) }
-        ensures rest { (copy.new.settings ≡ copy.old.settings)
-            × Kept (E.view copy.old.disk) (E.view copy.new.disk) }
-        ensures counted { OnOk result ((copy.new.has_failed ≡ false)
-            × (E.failed copy.new.disk ≡ E.failed copy.old.disk)) }
-        ensures bytes { IsSynced (E.view copy.old.disk) → OnOk result (
-            (store_of_disk (E.view copy.new.disk).seen ≡ Ok (copy.old.settings, copy.new.store))
-            × IsSynced (E.view copy.new.disk)) }
-        ensures refused { IfErr result (IsCopyFault copy.old.settings (contents self.now.store.tree)
-            (E.failed copy.old.disk) (E.failed copy.new.disk)) }
-        ensures unchanged { IfErr result
-            (λ fault. fault ≢ Fault.Device → copy.new.disk ≡ copy.old.disk) }
-        ensures crash { IsSynced (E.view copy.old.disk) →
-            LeavesOnly (E.view copy.old.disk) (E.view copy.new.disk) HoldsSomeStore }
-        ensures sound { OnOk result (IsSound E.view copy.new) }
+        ensures filling { IsFilling E.view E.failed copy.old.settings
+            (contents self.now.store.tree) copy.old.disk (E.view copy.old.disk).seen
+            HoldsSomeStore (with_store result copy.new) }
+        ensures settings { copy.new.settings ≡ copy.old.settings }
     {
         // Only for the proof.
         what_was_flushed_is_what_is_read();
@@ -209,33 +157,10 @@ impl<D: Disk> Store<D> {
         crew: Crew,
         fresh: Store<E>,
     ) -> Result<Store<E>, (Fault, E)>
-        requires first { fresh.store ≡ first_store }
-        requires empty { contents fresh.store.tree ≡ [] }
-        requires fine { fresh.has_failed ≡ false }
-        requires sound { IsSound E.view fresh }
+        requires fresh { IsFresh E.view fresh }
         requires crew { IsTrue (is_crew crew) }
-        ensures made { IfOk result (λ copy. (copy.settings ≡ fresh.settings)
-            × (copy.has_failed ≡ false)) }
-        ensures contents { IfOk result (λ copy.
-            contents copy.store.tree ≡ contents self.now.store.tree) }
-        ensures exact { IfOk result (λ copy.
-            IsCopied fresh.settings (contents self.now.store.tree) copy.store) }
-        ensures written { IsTrue (E.view fresh.disk).is_honest → IfOk result (λ copy.
-            after_filling fresh.settings (contents self.now.store.tree) (E.view fresh.disk).seen
-            ≡ Ok (copy.store, (E.view copy.disk).seen)) }
-        ensures kept { IfOk result (λ copy. Kept (E.view fresh.disk) (E.view copy.disk)
-            × (E.failed copy.disk ≡ E.failed fresh.disk)) }
-        ensures bytes { IsSynced (E.view fresh.disk) → IfOk result (λ copy.
-            (store_of_disk (E.view copy.disk).seen ≡ Ok (fresh.settings, copy.store))
-            × IsSynced (E.view copy.disk)) }
-        ensures refused { IfErr result (λ e. IsCopyFault fresh.settings
-            (contents self.now.store.tree) (E.failed fresh.disk) (E.failed e.1) e.0) }
-        ensures back { IfErr result (λ e. Kept (E.view fresh.disk) (E.view e.1)
-            × (e.0 ≢ Fault.Device → e.1 ≡ fresh.disk)) }
-        ensures crash { IsSynced (E.view fresh.disk) → MatchResult result
-            (λ copy. LeavesOnly (E.view fresh.disk) (E.view copy.disk) HoldsSomeStore)
-            (λ e. LeavesOnly (E.view fresh.disk) (E.view e.1) HoldsSomeStore) }
-        ensures sound { IfOk result (λ copy. IsSound E.view copy) }
+        ensures { IsFilling E.view E.failed fresh.settings (contents self.now.store.tree)
+            fresh.disk (E.view fresh.disk).seen HoldsSomeStore result }
     {
         let mut copy = fresh;
         match self.fill(rt, crew, &mut copy) {
@@ -251,36 +176,11 @@ impl<D: Disk> Store<D> {
         crew: Crew,
         fresh: Store<Hidden<E>>,
     ) -> Result<Store<E>, (Fault, E)>
-        requires first { fresh.store ≡ first_store }
-        requires empty { contents fresh.store.tree ≡ [] }
-        requires fine { fresh.has_failed ≡ false }
-        requires sound { IsSound ⟦<Hidden<E> as Disk>⟧.view fresh }
+        requires fresh { IsFresh ⟦<Hidden<E> as Disk>⟧.view fresh }
         requires crew { IsTrue (is_crew crew) }
-        ensures made { IfOk result (λ copy. (copy.settings ≡ fresh.settings)
-            × (copy.has_failed ≡ false)) }
-        ensures contents { IfOk result (λ copy.
-            contents copy.store.tree ≡ contents self.now.store.tree) }
-        ensures exact { IfOk result (λ copy.
-            IsCopied fresh.settings (contents self.now.store.tree) copy.store) }
-        ensures written { IsSynced (E.view fresh.disk.disk) → IfOk result (λ copy.
-            after_filling fresh.settings (contents self.now.store.tree)
-            (exchanged (E.view fresh.disk.disk).seen)
-            ≡ Ok (copy.store, (E.view copy.disk).seen)) }
-        ensures kept { IfOk result (λ copy. Kept (E.view fresh.disk.disk) (E.view copy.disk)
-            × (E.failed copy.disk ≡ E.failed fresh.disk.disk)) }
-        ensures bytes { IsSynced (E.view fresh.disk.disk) → IfOk result (λ copy.
-            (store_of_disk (E.view copy.disk).seen ≡ Ok (fresh.settings, copy.store))
-            × IsSynced (E.view copy.disk)) }
-        ensures refused { IfErr result (λ e. IsCopyFault fresh.settings
-            (contents self.now.store.tree) (E.failed fresh.disk.disk) (E.failed e.1) e.0) }
-        ensures back { IfErr result (λ e. Kept (E.view fresh.disk.disk) (E.view e.1)
-            × (e.0 ≢ Fault.Device → e.1 ≡ fresh.disk.disk)) }
-        ensures crash { IsSynced (E.view fresh.disk.disk) → MatchResult result
-            (λ copy. LeavesOnly (E.view fresh.disk.disk) (E.view copy.disk)
-            (IsLeftFilling fresh.settings (contents self.now.store.tree)))
-            (λ e. LeavesOnly (E.view fresh.disk.disk) (E.view e.1)
-            (IsLeftFilling fresh.settings (contents self.now.store.tree))) }
-        ensures sound { IfOk result (λ copy. IsSound E.view copy) }
+        ensures { IsFilling E.view E.failed fresh.settings (contents self.now.store.tree)
+            fresh.disk.disk (exchanged (E.view fresh.disk.disk).seen)
+            (IsLeftFilling fresh.settings (contents self.now.store.tree)) result }
     {
         match self.fill_new(rt, crew, fresh) {
             Ok(copy) => reveal_store(copy),
@@ -318,37 +218,20 @@ impl<D: Disk> Store<D> {
             (IfErr result (λ e. IsCopyFault settings (contents self.now.store.tree)
             (E.failed disk) (E.failed e.1) e.0))
             (λ fault. IsErr result × IfErr result (λ e. e.0 ≡ fault)) }
-        // What is handed back: the disk as it was, or without a store, except after a call of it failed.
-        ensures back { IfErr result (λ e. Kept (E.view disk) (E.view e.1)) }
+        // The disk that is returned with a fault is unchanged, or has no store, unless a call of it failed.
         ensures left { IfErr result (λ e. e.0 ≢ Fault.Device →
             (e.1 ≡ disk) ⊎ (IsTrue (E.view disk).is_honest →
             (store_of_disk (E.view e.1).seen ≡ Err Fault.NotAStore)
             × IsSynced (E.view e.1))) }
 
-        // It holds the same, under the settings.
-        ensures made { IfOk result (λ copy.
-            (copy.settings ≡ settings) × (copy.has_failed ≡ false)) }
-        ensures contents { IfOk result (λ copy.
-            contents copy.store.tree ≡ contents self.now.store.tree) }
-        ensures exact { IfOk result (λ copy.
-            IsCopied settings (contents self.now.store.tree) copy.store) }
-        // On an honest disk: its bytes are a function of the pairs, the settings and the bytes that it held.
-        ensures written { IsTrue (E.view disk).is_honest → IfOk result (λ copy.
-            after_filling settings (contents self.now.store.tree)
-            (disk_of_new settings (E.view disk).seen) ≡ Ok (copy.store, (E.view copy.disk).seen)) }
-        ensures kept { IfOk result (λ copy. Kept (E.view disk) (E.view copy.disk)
-            × (E.failed copy.disk ≡ E.failed disk)) }
-        // On an honest disk: it stands for this very store, and is settled.
-        ensures bytes { IsTrue (E.view disk).is_honest → IfOk result (λ copy.
-            (store_of_disk (E.view copy.disk).seen ≡ Ok (settings, copy.store))
-            × IsSynced (E.view copy.disk)) }
-        // On an honest disk that is settled a crash at any moment leaves the bytes as they were, no store, or the whole copy.
-        ensures crash { IsSynced (E.view disk) → MatchResult result
-            (λ copy. LeavesOnly (E.view disk) (E.view copy.disk)
-            (IsLeftCopying settings (contents self.now.store.tree) (E.view disk).seen))
-            (λ e. LeavesOnly (E.view disk) (E.view e.1)
-            (IsLeftCopying settings (contents self.now.store.tree) (E.view disk).seen)) }
-        ensures sound { IfOk result (λ copy. IsSound E.view copy) }
+        // The copy has the same contents, under the settings. On an honest disk its bytes are a function of the pairs,
+        // the settings and the bytes that the disk held. On a synced disk, a crash at any moment leaves the old bytes,
+        // no store, or the whole copy.
+        ensures copy { IsCopyOn E.view E.failed settings (contents self.now.store.tree) disk
+            (disk_of_new settings (E.view disk).seen)
+            (IsLeftCopying settings (contents self.now.store.tree) (E.view disk).seen) result }
+        ensures is_synced { IsTrue (E.view disk).is_honest →
+            IfOk result (λ copy. IsSynced (E.view copy.disk)) }
     {
         if let Err(fault) = admit_crew(crew) {
             return Err((fault, disk));

@@ -1,13 +1,10 @@
 //! Creates stores. The first byte is written last, so that a crash leaves no store, or all of it.
-ghost use Rattle.std.specs.Prelude.{◌≡◌, ◌≢◌, [], Ok, Err, IsTrue, IfOk, IsErr, IfErr, OnOk, MatchOption, MatchResult, false};
-ghost use Rattle.mapping.specs.Levels.{contents};
+ghost use Rattle.std.specs.Prelude.{◌≡◌, ◌≢◌, Err, IsTrue, IfOk, IfErr, OnOk, MatchOption};
 ghost use Rattle.mapping.specs.TreeInMemory.{new_in_memory};
 ghost use Rattle.flush_log.specs.Disk.{IsSynced, Kept, LeavesOnly};
 ghost use Rattle.flush_log.specs.NewStore.{disk_of_new};
-ghost use Rattle.recovery.specs.StoreOfDisk.{first_store};
-ghost use Rattle.engine.specs.Hidden.{exchanged, HoldsNoStore, IsLeftHiding, IsLeftRevealing, revealed};
-ghost use Rattle.engine.specs.Late.{IsLate, create_refusal, after_create};
-ghost use Rattle.engine.specs.State.{IsSound};
+ghost use Rattle.engine.specs.Hidden.{exchanged, HoldsNoStore, IsLeftHiding, IsRevealed};
+ghost use Rattle.engine.specs.Late.{IsCreatedOn, IsLate, create_refusal};
 
 use crate::hidden_disk::{Hidden, reveal, write_hidden};
 use crate::store::Store;
@@ -49,27 +46,10 @@ pub(super) fn create_hidden<D: Disk>(
     disk: D,
     settings: Settings,
 ) -> Result<Store<Hidden<D>>, (Fault, D)>
-    ensures refused { MatchOption (create_refusal settings (D.view disk).size)
-        (IfErr result (λ e. IsLate (D.failed disk) (D.failed e.1) e.0))
-        (λ fault. IsErr result × IfErr result (λ e. e.0 ≡ fault)) }
-    ensures back { IfErr result
-        (λ e. Kept (D.view disk) (D.view e.1) × (e.0 ≢ Fault.Device → e.1 ≡ disk)) }
-    ensures made { IfOk result (λ made. (made.settings ≡ settings) × (made.store ≡ first_store)
-        × (made.has_failed ≡ false)) }
-    ensures contents { IfOk result (λ made. contents made.store.tree ≡ []) }
-    ensures kept { IfOk result (λ made. Kept (D.view disk) (D.view made.disk.disk)
-        × (D.failed made.disk.disk ≡ D.failed disk)) }
-    ensures bytes { IsTrue (D.view disk).is_honest → IfOk result (λ made.
-        (after_create settings (D.view disk).seen
-        ≡ Ok (made.store, exchanged (D.view made.disk.disk).seen))
-        × IsSynced (D.view made.disk.disk)) }
+    ensures created { IsCreatedOn D.view D.failed ⟦<Hidden<D> as Disk>⟧.view (λ hidden. hidden.disk)
+        exchanged settings disk (IsLeftHiding (D.view disk).seen) result }
     ensures hidden { IsTrue (D.view disk).is_honest →
         IfOk result (λ made. HoldsNoStore (D.view made.disk.disk).seen) }
-    ensures crash { IsSynced (D.view disk) → MatchResult result
-        (λ made. LeavesOnly (D.view disk) (D.view made.disk.disk)
-        (IsLeftHiding (D.view disk).seen))
-        (λ e. LeavesOnly (D.view disk) (D.view e.1) (IsLeftHiding (D.view disk).seen)) }
-    ensures sound { IfOk result (λ made. IsSound ⟦<Hidden<D> as Disk>⟧.view made) }
 {
     // Only for the proof.
     the_first_tree_is_proper_and_empty();
@@ -92,22 +72,7 @@ pub(super) fn create_hidden<D: Disk>(
 
 // Reveals a hidden store: writes and syncs the first byte.
 pub(super) fn reveal_store<D: Disk>(hidden: Store<Hidden<D>>) -> Result<Store<D>, (Fault, D)>
-    ensures same { IfOk result (λ shown. (shown.settings ≡ hidden.settings)
-        × (shown.store ≡ hidden.store) × (shown.has_failed ≡ hidden.has_failed)) }
-    ensures kept { IfOk result (λ shown. Kept (D.view hidden.disk.disk) (D.view shown.disk)
-        × (D.failed shown.disk ≡ D.failed hidden.disk.disk)) }
-    ensures refused { IfErr result (λ e. (e.0 ≡ Fault.Device)
-        × IsLate (D.failed hidden.disk.disk) (D.failed e.1) e.0
-        × Kept (D.view hidden.disk.disk) (D.view e.1)) }
-    ensures bytes { IsTrue (D.view hidden.disk.disk).is_honest → IfOk result (λ shown.
-        ((D.view shown.disk).seen ≡ revealed (D.view hidden.disk.disk).seen)
-        × IsSynced (D.view shown.disk)) }
-    ensures crash { IsSynced (D.view hidden.disk.disk) → MatchResult result
-        (λ shown. LeavesOnly (D.view hidden.disk.disk) (D.view shown.disk)
-        (IsLeftRevealing (D.view hidden.disk.disk).seen))
-        (λ e. LeavesOnly (D.view hidden.disk.disk) (D.view e.1)
-        (IsLeftRevealing (D.view hidden.disk.disk).seen)) }
-    ensures sound { IfOk result (λ shown. IsSound D.view shown) }
+    ensures { IsRevealed D.view D.failed hidden hidden.disk.disk result }
 {
     let Store {
         settings,

@@ -1,6 +1,6 @@
 //! Numbers for operating a store: how full its log is, whether a flush is due and what it would add, and how many pairs
 //! there are.
-ghost use Rattle.std.specs.Prelude.{◌≡◌, ◌≢◌, ◌⊎◌, ◌↔◌, ◌+◌, ◌^◌, ◌-◌, ◌<◌, ◌≤◌, [], length, min, None, Ok, Err, IsTrue, IfOk, IfErr, true, false};
+ghost use Rattle.std.specs.Prelude.{◌≡◌, ◌≢◌, ◌⊎◌, ◌↔◌, ◌+◌, ◌^◌, ◌-◌, ◌<◌, ◌≤◌, [], length, min, None, Ok, IsTrue, IfOk, IfErr, false};
 ghost use Rattle.keys.specs.Limits.{first_bad_field};
 ghost use Rattle.keys.specs.declared.fault.Fault.TheVariants.{NoMemory};
 ghost use Rattle.mapping.specs.Levels.{contents};
@@ -8,7 +8,7 @@ ghost use Rattle.flush_log.specs.Ends.{AreEnds};
 ghost use Rattle.flush_log.specs.FlushText.{flush_frames};
 ghost use Rattle.flush_log.specs.Segments.{last_segment};
 ghost use Rattle.engine.specs.Pending.{FlushAdds, IsFlushRefused};
-ghost use Rattle.engine.specs.Refusal.{is_crew};
+ghost use Rattle.engine.specs.Refusal.{IsAdmitted, is_crew};
 
 use crate::refusal::admit_crew;
 use crate::store::Store;
@@ -119,9 +119,7 @@ impl<D: Disk> Store<D> {
             flush_frames self.now.store.version self.now.store.tree ≡ [] → result ≡ Ok 0 }
 
         // Which fault.
-        ensures failed { self.now.has_failed ≡ true → result ≡ Err Fault.Failed }
-        ensures bad_crew { self.now.has_failed ≡ false → is_crew crew ≡ false →
-            result ≡ Err Fault.BadCrew }
+        ensures admitted { IsAdmitted (is_crew crew) self.now result self.now }
         ensures refused { self.now.has_failed ≡ false → IsTrue (is_crew crew) →
             IfErr result
             (λ fault. (fault ≡ NoMemory) ⊎ IsFlushRefused self.now.settings self.now.store fault) }

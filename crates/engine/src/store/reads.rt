@@ -8,13 +8,13 @@ ghost use Rattle.keys.specs.declared.fault.Fault.TheVariants.{NoMemory};
 ghost use Rattle.delta_chain.specs.Layers.{entries_of};
 ghost use Rattle.index_page.specs.Page.{Page};
 ghost use Rattle.index_page.specs.Page.PageOfKind.{Leaf};
-ghost use Rattle.mapping.specs.Levels.{contents, levels_of};
-ghost use Rattle.mapping.specs.Proper.{AreLevels, HoldsItsLevels};
+ghost use Rattle.mapping.specs.Levels.{contents};
 ghost use Rattle.mapping.specs.Tree.{page_at};
 ghost use Rattle.mapping.specs.TreeInMemory.{AreAllHome, tree_of};
 ghost use Rattle.scan.specs.Back.{rows_back};
 ghost use Rattle.scan.specs.Prefix.{with_prefix};
 ghost use Rattle.engine.specs.LeafFor.{IsLeafFor};
+ghost use Rattle.engine.specs.SoundTree.{IsReadable};
 
 use crate::store::Store;
 use delta_chain::Chain;
@@ -90,9 +90,7 @@ fn listed<'a>(alloc: Global, rows: Rows<'a>) -> Result<Vec<(&'a [u8], &'a [u8])>
 
 // The value that the tree has at the key.
 fn value_of<'a>(tree: &'a Tree<Global>, key: &[u8]) -> Option<&'a [u8]>
-    requires home { AreAllHome tree.now }
-    requires held { HoldsItsLevels (tree_of tree.now) }
-    requires levels { AreLevels (levels_of (tree_of tree.now)) }
+    requires readable { IsReadable tree.now }
     ensures { option_copied result ≡ value_at key.now (contents (tree_of tree.now)) }
 {
     match value_in(chain_for(tree, key), key) {
@@ -103,9 +101,7 @@ fn value_of<'a>(tree: &'a Tree<Global>, key: &[u8]) -> Option<&'a [u8]>
 
 // The contents of the leaf whose range contains the key: it has at the key what the tree has there.
 fn chain_for<'a>(tree: &'a Tree<Global>, key: &[u8]) -> &'a Chain<Value<Global>, Global>
-    requires home { AreAllHome tree.now }
-    requires held { HoldsItsLevels (tree_of tree.now) }
-    requires levels { AreLevels (levels_of (tree_of tree.now)) }
+    requires readable { IsReadable tree.now }
     ensures { value_at key.now (entries_of result.now)
         ≡ value_at key.now (contents (tree_of tree.now)) }
 {
@@ -114,9 +110,7 @@ fn chain_for<'a>(tree: &'a Tree<Global>, key: &[u8]) -> &'a Chain<Value<Global>,
 
 // The page id of that leaf.
 fn leaf_for(tree: &Tree<Global>, key: &[u8]) -> Pid
-    requires home { AreAllHome tree.now }
-    requires held { HoldsItsLevels (tree_of tree.now) }
-    requires levels { AreLevels (levels_of (tree_of tree.now)) }
+    requires readable { IsReadable tree.now }
     ensures { IsLeafFor (tree_of tree.now) key.now result }
 {
     let mut pid = tree.root();

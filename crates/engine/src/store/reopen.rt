@@ -3,7 +3,7 @@ ghost use Rattle.std.specs.Prelude.{◌≡◌, ◌≢◌, Err, false, IsTrue, If
 ghost use Rattle.keys.specs.Bytes.{Bytes};
 ghost use Rattle.flush_log.specs.Disk.{CountsFailure, IsSynced, Kept, Leaves, Same};
 ghost use Rattle.recovery.specs.Recovered.{IsReadOf};
-ghost use Rattle.engine.specs.Opened.{IsOpened, disk_left};
+ghost use Rattle.engine.specs.Opened.{IsOpened, IsOpenedOn, disk_left};
 ghost use Rattle.engine.specs.Refusal.{is_crew};
 ghost use Rattle.engine.specs.State.{IsSound};
 
@@ -101,27 +101,7 @@ impl<D: Disk> Store<D> {
         disk: D,
         crew: Crew,
     ) -> Result<Store<D>, (Fault, D)>
-        // The crew is checked before the disk is called.
-        ensures bad_crew { is_crew crew ≡ false → result ≡ Err (Fault.BadCrew, disk) }
-        ensures read { IsTrue (is_crew crew) →
-            (file : Bytes) × IsReadOf (D.view disk) file
-            × IsOpened D.failed file (D.failed disk) result }
-        ensures honest { IsTrue (is_crew crew) → IsTrue (D.view disk).is_honest →
-            IsOpened D.failed (D.view disk).seen (D.failed disk) result }
-        ensures fine { IfOk result (λ opened. opened.has_failed ≡ false) }
-
-        // The readable contents are unchanged. After Ok the disk is synced, and a crash during the call leaves what it
-        // might have left before.
-        ensures seen { IsTrue (D.view disk).is_honest →
-            (D.view (disk_left result)).seen ≡ (D.view disk).seen }
-        ensures is_synced { IsTrue (D.view disk).is_honest →
-            IfOk result (λ opened. IsSynced (D.view opened.disk)) }
-        ensures crash { IsTrue (D.view disk).is_honest →
-            Leaves (D.view disk) (D.view (disk_left result)) (λ before c. c ≡ before) }
-        ensures kept { Kept (D.view disk) (D.view (disk_left result)) }
-        ensures counted { IfOk result (λ opened. D.failed opened.disk ≡ D.failed disk) }
-        ensures uncounted { IfErr result (λ e. e.0 ≢ Fault.Device → D.failed e.1 ≡ D.failed disk) }
-        ensures sound { IfOk result (λ opened. IsSound D.view opened) }
+        ensures { IsOpenedOn D.view D.failed (is_crew crew) disk result }
     {
         if let Err(fault) = admit_crew(crew) {
             return Err((fault, disk));
@@ -136,28 +116,7 @@ impl<D: Disk> Store<D> {
     /// Drops the store's contents in memory, and opens the store on its disk, as `Store::open` does: the store of the
     /// last flush or upgrade. Use it to continue with a store that has failed (`Fault::Failed`).
     pub fn reopen(self, rt: &(impl Threads + Sync), crew: Crew) -> Result<Store<D>, (Fault, D)>
-        // The crew is checked before the disk is called.
-        ensures bad_crew { is_crew crew ≡ false → result ≡ Err (Fault.BadCrew, self.disk) }
-        ensures read { IsTrue (is_crew crew) →
-            (file : Bytes) × IsReadOf (D.view self.disk) file
-            × IsOpened D.failed file (D.failed self.disk) result }
-        ensures honest { IsTrue (is_crew crew) → IsTrue (D.view self.disk).is_honest →
-            IsOpened D.failed (D.view self.disk).seen (D.failed self.disk) result }
-        ensures fine { IfOk result (λ opened. opened.has_failed ≡ false) }
-
-        // The readable contents are unchanged. After Ok the disk is synced, and a crash during the call leaves what it
-        // might have left before.
-        ensures seen { IsTrue (D.view self.disk).is_honest →
-            (D.view (disk_left result)).seen ≡ (D.view self.disk).seen }
-        ensures is_synced { IsTrue (D.view self.disk).is_honest →
-            IfOk result (λ opened. IsSynced (D.view opened.disk)) }
-        ensures crash { IsTrue (D.view self.disk).is_honest →
-            Leaves (D.view self.disk) (D.view (disk_left result)) (λ before c. c ≡ before) }
-        ensures kept { Kept (D.view self.disk) (D.view (disk_left result)) }
-        ensures counted { IfOk result (λ opened. D.failed opened.disk ≡ D.failed self.disk) }
-        ensures uncounted { IfErr result
-            (λ e. e.0 ≢ Fault.Device → D.failed e.1 ≡ D.failed self.disk) }
-        ensures sound { IfOk result (λ opened. IsSound D.view opened) }
+        ensures { IsOpenedOn D.view D.failed (is_crew crew) self.disk result }
     {
         let alloc = self.alloc;
         Store::open(rt, alloc, self.close(), crew)

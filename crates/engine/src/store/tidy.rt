@@ -1,6 +1,6 @@
 //! Tidying: merges leaves that deletes have emptied into their neighbours, by batches that do not change the contents
 //! of the store.
-ghost use Rattle.std.specs.Prelude.{◌≡◌, ◌-◌, Err, IsTrue, IfOk, OnOk, IfErr, true, false};
+ghost use Rattle.std.specs.Prelude.{◌≡◌, ◌-◌, IsTrue, IfOk, OnOk, IfErr, false};
 ghost use Rattle.std.specs.Option.{option_copied};
 ghost use Rattle.keys.specs.Bytes.{Bytes, Pairs};
 ghost use Rattle.keys.specs.Order.{IsRising};
@@ -9,7 +9,8 @@ ghost use Rattle.keys.specs.Step.{map_after_all};
 ghost use Rattle.keys.specs.declared.fault.Fault.TheVariants.{NoMemory};
 ghost use Rattle.mapping.specs.Levels.{contents};
 ghost use Rattle.mapping.specs.TreeInMemory.{tree_of};
-ghost use Rattle.engine.specs.Refusal.{is_crew};
+ghost use Rattle.engine.specs.Refusal.{IsAdmitted, is_crew};
+ghost use Rattle.engine.specs.State.{IsOnlyInMemory};
 ghost use Rattle.engine.specs.Tidied.{IsTidied, IsTidyFault, counted_pages};
 
 use crate::refusal::admit_crew;
@@ -204,8 +205,7 @@ impl<D: Disk> Store<D> {
         requires fine { self.old.has_failed ≡ false }
         requires crew { IsTrue (is_crew crew) }
         ensures tidied { IsTidied self.old.settings self.old.store self.new.store }
-        ensures rest { (self.new.settings ≡ self.old.settings) × (self.new.disk ≡ self.old.disk)
-            × (self.new.has_failed ≡ self.old.has_failed) }
+        ensures rest { IsOnlyInMemory self.old self.new }
         ensures refused { IfErr result (IsTidyFault self.old.settings) }
     {
         let commands = self.neutral_batch(thin, stage)?;
@@ -242,13 +242,9 @@ impl<D: Disk> Store<D> {
         ensures tidied { IsTidied self.old.settings self.old.store self.new.store }
         ensures pages { IfOk result (λ count.
             count ≡ counted_pages self.old.store.tree - counted_pages self.new.store.tree) }
-        ensures rest { (self.new.settings ≡ self.old.settings) × (self.new.disk ≡ self.old.disk)
-            × (self.new.has_failed ≡ self.old.has_failed) }
+        ensures rest { IsOnlyInMemory self.old self.new }
 
-        ensures failed { self.old.has_failed ≡ true →
-            (result ≡ Err Fault.Failed) × (self.new ≡ self.old) }
-        ensures bad_crew { self.old.has_failed ≡ false → is_crew crew ≡ false →
-            (result ≡ Err Fault.BadCrew) × (self.new ≡ self.old) }
+        ensures admitted { IsAdmitted (is_crew crew) self.old result self.new }
         ensures refused { self.old.has_failed ≡ false → IsTrue (is_crew crew) →
             IfErr result (IsTidyFault self.old.settings) }
     {

@@ -26,10 +26,10 @@ returns-in_err-commit-clause-read g c =
 pub returns-in_err-commit-clause-crash : goal.returns-in_err-commit-clause-crash
 returns-in_err-commit-clause-crash g c is_synced st same version step =
     let view = g.D.Disk.view in
-    leaves_the_same (view c.args.disk.now) (view c.plan.new.disk) _ (g.met.D.Disk.lawful c.args.disk.now is_synced.honest) (c.in_err-commit.ensures.same is_synced.honest) is_synced (inl refl)
+    leaves_the_same (view c.args.disk.now) (view c.plan.new.disk) _ (g.met.D.Disk.lawful c.args.disk.now is_synced.honest) (c.in_err-commit.ensures.only_reads.same is_synced.honest) is_synced (inl refl)
 
 pub returns-in_err-commit-clause-unwritten : goal.returns-in_err-commit-clause-unwritten
-returns-in_err-commit-clause-unwritten g c honest st same version = err_on c.from_residual.result _ c.in_err-commit.field-0.0 c.from_residual.ensures.1 (inl (c.in_err-commit.ensures.same honest))
+returns-in_err-commit-clause-unwritten g c honest st same version = err_on c.from_residual.result _ c.in_err-commit.field-0.0 c.from_residual.ensures.1 (inl (c.in_err-commit.ensures.only_reads.same honest))
 
 pub write-requires-clause-planned : goal.write-requires-clause-planned
 write-requires-clause-planned g c = let (file, is, (p, texts)) = c.in_ok-commit.ensures.read in (base_in c.args.format.now c.args.ends.now file, clean_frames c.args.ends.now.head p.0, p.2)
@@ -41,7 +41,7 @@ returns-in_err-write-clause-read g c =
     let t = c.args.ends.now in
     let failed = g.D.Disk.failed in
     let more = has-more c.args.format.now t c.args.reading.now.limit c.requires.has c.requires.reading.2.within in
-    let counts = failed_since (failed c.args.disk.now) (failed c.plan.new.disk) (failed c.write.new.disk) c.in_ok-commit.ensures.counted (counted_failed (failed c.plan.new.disk) (failed c.write.new.disk) c.in_err-write.ensures.failed) in
+    let counts = failed_since (failed c.args.disk.now) (failed c.plan.new.disk) (failed c.write.new.disk) c.in_ok-commit.ensures.only_reads.counted (counted_failed (failed c.plan.new.disk) (failed c.write.new.disk) c.in_err-write.ensures.failed) in
     let (file, is, (p, texts)) = c.in_ok-commit.ensures.read in (
       file,
       is,
@@ -59,9 +59,9 @@ returns-in_err-write-clause-crash g c is_synced st same version step =
     let more = has-more c.args.format.now t c.args.reading.now.limit c.requires.has c.requires.reading.2.within in
     let (file, is, (p, texts)) = c.in_ok-commit.ensures.read in
     let q = plan-of f t file old.seen _ st same version (is.honest is_synced.honest) p in
-    let still = c.in_ok-commit.ensures.same is_synced.honest in
+    let still = c.in_ok-commit.ensures.only_reads.same is_synced.honest in
     plan-crashed s st _ (more-of f t st same version more) old mid (view c.write.new.disk) step q still
-    (c.in_err-write.ensures.crash (base_in (format_for s st) (ends_of st) old.seen) (clean_frames st.head q.0) q.2 (settled_still old mid c.in_ok-commit.ensures.kept still is_synced))
+    (c.in_err-write.ensures.crash (base_in (format_for s st) (ends_of st) old.seen) (clean_frames st.head q.0) q.2 (settled_still old mid c.in_ok-commit.ensures.only_reads.kept still is_synced))
 
 pub returns-in_err-write-clause-unwritten : goal.returns-in_err-write-clause-unwritten
 returns-in_err-write-clause-unwritten g c honest st same version =
@@ -97,8 +97,8 @@ returns-clause-written g c honest st same version =
     let more = has-more c.args.format.now t c.args.reading.now.limit c.requires.has c.requires.reading.2.within in
     let (file, is, (p, texts)) = c.in_ok-commit.ensures.read in
     let q = plan-of f t file old.seen _ st same version (is.honest honest) p in
-    let still = c.in_ok-commit.ensures.same honest in
-    let wrote = c.in_ok-write.ensures.written (base_in (format_for s st) (ends_of st) old.seen) (clean_frames st.head q.0) q.2 (subst IsTrue (sym c.in_ok-commit.ensures.kept.honest) honest) in
+    let still = c.in_ok-commit.ensures.only_reads.same honest in
+    let wrote = c.in_ok-write.ensures.written (base_in (format_for s st) (ends_of st) old.seen) (clean_frames st.head q.0) q.2 (subst IsTrue (sym c.in_ok-commit.ensures.only_reads.kept.honest) honest) in
     by_slot s st old.seen _ _ _ c.slot-next.ensures (plan-written s st _ (more-of f t st same version more) old mid (view c.write.new.disk).seen q still wrote)
 
 pub returns-clause-crash : goal.returns-clause-crash
@@ -112,9 +112,9 @@ returns-clause-crash g c is_synced st same version step =
     let more = has-more c.args.format.now t c.args.reading.now.limit c.requires.has c.requires.reading.2.within in
     let (file, is, (p, texts)) = c.in_ok-commit.ensures.read in
     let q = plan-of f t file old.seen _ st same version (is.honest is_synced.honest) p in
-    let still = c.in_ok-commit.ensures.same is_synced.honest in
+    let still = c.in_ok-commit.ensures.only_reads.same is_synced.honest in
     plan-crashed s st _ (more-of f t st same version more) old mid (view c.write.new.disk) step q still
-    (c.write.ensures.crash (base_in (format_for s st) (ends_of st) old.seen) (clean_frames st.head q.0) q.2 (settled_still old mid c.in_ok-commit.ensures.kept still is_synced))
+    (c.write.ensures.crash (base_in (format_for s st) (ends_of st) old.seen) (clean_frames st.head q.0) q.2 (settled_still old mid c.in_ok-commit.ensures.only_reads.kept still is_synced))
 
 pub returns-clause-reading : goal.returns-clause-reading
 returns-clause-reading g c =
@@ -129,4 +129,4 @@ returns-clause-reading g c =
     let within = reading.within in
     let same = c.in_ok-commit.ensures.limit in
     reading-after f t old mid (view c.write.new.disk) file _ _ c.plan.new.reading c.requires.checked c.requires.ends c.requires.within more is p c.slot-next.ensures (omega (arith, within, same)) texts
-    c.in_ok-commit.ensures.kept c.in_ok-write.ensures.kept (λ honest. (c.in_ok-commit.ensures.same honest).seen) (λ honest. c.in_ok-write.ensures.written (base_in f t file) (clean_frames t.head p.0) p.2 honest)
+    c.in_ok-commit.ensures.only_reads.kept c.in_ok-write.ensures.kept (λ honest. (c.in_ok-commit.ensures.only_reads.same honest).seen) (λ honest. c.in_ok-write.ensures.written (base_in f t file) (clean_frames t.head p.0) p.2 honest)

@@ -2,7 +2,7 @@ use Rattle.std.proofs.Common.{◌∙◌, suc, List, flat_map, arith, refl, ap, i
 use Rattle.keys.specs.declared.fault.Fault.TheVariants.{NoMemory}
 use Rattle.frame_codec.specs.Frame.{Frame}
 use Rattle.flush_log.specs.Slot.{Slot}
-use Rattle.recovery.proofs.ReadBytes.{read_before, handed_on}
+use Rattle.recovery.proofs.ReadBytes.{read_before, handed_on, reads_without_failure, reads_with_fault}
 use Rattle.cleaner.specs.Chosen.{image_in}
 use Rattle.cleaner.specs.Cleaned.{cleaned_slot}
 use Rattle.cleaner.specs.CleanText.{clean_frames}
@@ -62,8 +62,21 @@ returns-clause-read g c =
     let images = chosen-images f t file found _ reading.read of (some-text _ (clean_frames t.head found) of c.in_ok-images.ensures.some) in
     let base = c.cleaned_slot-base.ensures ∙ ap (λ (d : Slot). cleaned_slot f.version t d) slot in (
       now,
-      read_before old new now c.in_ok-on_disk.ensures.kept c.in_ok-on_disk.ensures.same then,
+      read_before old new now c.in_ok-on_disk.ensures.only_reads.kept c.in_ok-on_disk.ensures.only_reads.same then,
       as-clean f t c.cleaned_slot-base.result now found (λ fs. HasTexts f (suc t.head) fs c.take-pages.new.self) (failed c.args.disk.now) (failed c.read_slot_on_disk.new.disk) c.plan.result more read
           (texts-left f t.head found c.args.reading.now c.take-pages.new.self c.take-pages.ensures.limit c.take-pages.ensures.rest reading.texts) base
           (c.plan.ensures (clean_frames t.head found) (images-by f c.cleaned_slot-base.result (clean_frames t.head found) _ (ap (λ (u : Slot). u.version) c.cleaned_slot-base.ensures) images)),
     )
+
+pub returns-in_err-on_disk-clause-only_reads : goal.returns-in_err-on_disk-clause-only_reads
+returns-in_err-on_disk-clause-only_reads g c = reads_with_fault g.D.Disk.view g.D.Disk.failed c.args.disk.now c.read_slot_on_disk.new.disk c.from_residual.result c.in_err-on_disk.field-0.0 c.from_residual.ensures.1 c.in_err-on_disk.ensures.only_reads
+
+pub returns-in_err-images-clause-only_reads : goal.returns-in_err-images-clause-only_reads
+returns-in_err-images-clause-only_reads g c =
+    let ok = c.in_ok-on_disk.ensures.only_reads in
+    reads_without_failure g.D.Disk.view g.D.Disk.failed c.args.disk.now c.read_slot_on_disk.new.disk c.from_residual-in_err-images.result ok.kept ok.same ok.counted
+
+pub returns-clause-only_reads : goal.returns-clause-only_reads
+returns-clause-only_reads g c =
+    let ok = c.in_ok-on_disk.ensures.only_reads in
+    reads_without_failure g.D.Disk.view g.D.Disk.failed c.args.disk.now c.read_slot_on_disk.new.disk c.plan.result ok.kept ok.same ok.counted

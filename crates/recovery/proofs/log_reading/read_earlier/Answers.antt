@@ -4,7 +4,7 @@ use Rattle.flush_log.specs.Reading.{read_earlier}
 use Rattle.flush_log.specs.Segments.{last_segment}
 use Rattle.recovery.specs.Gathered.{IsPartialLog}
 use Rattle.recovery.specs.Recovered.{IsLate}
-use Rattle.recovery.proofs.ReadBytes.{IsUncounted, kept_self, same_self, kept_then, same_then, same_on, late_since, err_on, not_ok}
+use Rattle.recovery.proofs.ReadBytes.{kept_self, same_self, kept_then, same_then, late_since, err_on, not_ok, reads_without_failure, reads_with_fault, reads_then}
 use Rattle.recovery.proofs.ReadLog.{none-read, round-more, is_last}
 use Rattle.recovery.proofs.log_reading.read_earlier.Goals as goal
 
@@ -52,9 +52,9 @@ loop-first-preserved g c =
       from = omega (arith, from);
       upto = omega (arith, last, less, few);
       buffer = sym (length_refill c.loop-first.buffer.len c.loop-first.buffer.items _ c.loop-first.buffer.ok.0) ∙ c.loop-first.buffer.ok.0 ∙ so_far.buffer;
-      kept = kept_then start old new so_far.kept c.read_whole.ensures.kept;
-      same = λ honest. same_then start old new (so_far.same honest) (c.read_whole.ensures.same (so_far.kept.honest ∙ honest));
-      counted = c.in_ok-segments.ensures.counted ∙ so_far.counted;
+      kept = kept_then start old new so_far.kept c.read_whole.ensures.only_reads.kept;
+      same = λ honest. same_then start old new (so_far.same honest) (c.read_whole.ensures.only_reads.same (so_far.kept.honest ∙ honest));
+      counted = c.in_ok-segments.ensures.only_reads.counted ∙ so_far.counted;
       read = λ w file is none.
           let (now, upto) = so_far.read w file is none in
           let (then, bytes, front, state) = c.in_ok-segments.ensures.read now t.head upto.bytes from (omega (arith, free, few, less, last, from)) in (
@@ -88,24 +88,11 @@ returns-in_err-segments-clause-err g c =
     err_on c.from_residual.result (IsLate (failed c.args.disk.now) (failed c.read_whole.new.disk)) c.in_err-segments.field-0.0 c.from_residual.ensures.1
     (late_since _ _ _ _ c.loop-first.invariant.counted c.in_err-segments.ensures.err)
 
-pub returns-in_err-segments-clause-kept : goal.returns-in_err-segments-clause-kept
-returns-in_err-segments-clause-kept g c =
-    let view = g.D.Disk.view in
-    kept_then (view c.args.disk.now) (view c.loop-first.disk) (view c.read_whole.new.disk) c.loop-first.invariant.kept c.read_whole.ensures.kept
-
-pub returns-in_err-segments-clause-same : goal.returns-in_err-segments-clause-same
-returns-in_err-segments-clause-same g c =
-    let view = g.D.Disk.view in
-    same_on (view c.args.disk.now) (view c.loop-first.disk) (view c.read_whole.new.disk) c.loop-first.invariant.kept c.loop-first.invariant.same c.read_whole.ensures.same
-
-pub returns-in_err-segments-clause-counted : goal.returns-in_err-segments-clause-counted
-returns-in_err-segments-clause-counted g c = not_ok c.from_residual.result _ c.in_err-segments.field-0.0 c.from_residual.ensures.1
-
-pub returns-in_err-segments-clause-uncounted : goal.returns-in_err-segments-clause-uncounted
-returns-in_err-segments-clause-uncounted g c =
-    let failed = g.D.Disk.failed in
-    err_on c.from_residual.result (IsUncounted (failed c.args.disk.now) (failed c.read_whole.new.disk)) c.in_err-segments.field-0.0 c.from_residual.ensures.1
-    (λ other. c.in_err-segments.ensures.uncounted other ∙ c.loop-first.invariant.counted)
+pub returns-in_err-segments-clause-only_reads : goal.returns-in_err-segments-clause-only_reads
+returns-in_err-segments-clause-only_reads g c =
+    let so_far = c.loop-first.invariant in
+    reads_with_fault g.D.Disk.view g.D.Disk.failed c.args.disk.now c.read_whole.new.disk c.from_residual.result c.in_err-segments.field-0.0 c.from_residual.ensures.1
+    (reads_then g.D.Disk.view g.D.Disk.failed c.args.disk.now c.loop-first.disk c.read_whole.new.disk _ so_far.kept so_far.same so_far.counted c.in_err-segments.ensures.only_reads)
 
 -- these were not scanned
 pub returns-in_err-take-clause-read : goal.returns-in_err-take-clause-read
@@ -131,24 +118,11 @@ returns-in_err-take-clause-err g c =
     err_on c.from_residual-in_err-take.result (IsLate (failed c.args.disk.now) (failed c.read_whole.new.disk)) c.in_err-take.field-0.0 c.from_residual-in_err-take.ensures.1
     (inl c.in_err-take.ensures.err)
 
-pub returns-in_err-take-clause-kept : goal.returns-in_err-take-clause-kept
-returns-in_err-take-clause-kept g c =
-    let view = g.D.Disk.view in
-    kept_then (view c.args.disk.now) (view c.loop-first.disk) (view c.read_whole.new.disk) c.loop-first.invariant.kept c.read_whole.ensures.kept
-
-pub returns-in_err-take-clause-same : goal.returns-in_err-take-clause-same
-returns-in_err-take-clause-same g c =
-    let view = g.D.Disk.view in
-    same_on (view c.args.disk.now) (view c.loop-first.disk) (view c.read_whole.new.disk) c.loop-first.invariant.kept c.loop-first.invariant.same c.read_whole.ensures.same
-
-pub returns-in_err-take-clause-counted : goal.returns-in_err-take-clause-counted
-returns-in_err-take-clause-counted g c = not_ok c.from_residual-in_err-take.result _ c.in_err-take.field-0.0 c.from_residual-in_err-take.ensures.1
-
-pub returns-in_err-take-clause-uncounted : goal.returns-in_err-take-clause-uncounted
-returns-in_err-take-clause-uncounted g c =
-    let failed = g.D.Disk.failed in
-    err_on c.from_residual-in_err-take.result (IsUncounted (failed c.args.disk.now) (failed c.read_whole.new.disk)) c.in_err-take.field-0.0 c.from_residual-in_err-take.ensures.1
-    (λ other. c.in_ok-segments.ensures.counted ∙ c.loop-first.invariant.counted)
+pub returns-in_err-take-clause-only_reads : goal.returns-in_err-take-clause-only_reads
+returns-in_err-take-clause-only_reads g c =
+    let so_far = c.loop-first.invariant in
+    let ok = reads_then g.D.Disk.view g.D.Disk.failed c.args.disk.now c.loop-first.disk c.read_whole.new.disk _ so_far.kept so_far.same so_far.counted c.in_ok-segments.ensures.only_reads in
+    reads_without_failure g.D.Disk.view g.D.Disk.failed c.args.disk.now c.read_whole.new.disk c.from_residual-in_err-take.result ok.kept ok.same ok.counted
 
 pub returns-clause-read : goal.returns-clause-read
 returns-clause-read g c w file is none =
@@ -161,3 +135,8 @@ returns-clause-read g c w file is none =
     let all : c.loop-first.first - t.head ≡ last_segment s t.tail - t.head = omega (arith, last, upto, over) in
     let (now, read) = c.loop-first.invariant.read w file is none in
     (now, read.bytes, read.front, subst (λ (k : ℕ). IsPartialLog w c.loop-first.so_far.gathering c.loop-first.so_far.fault (read_earlier format now t.head k)) all read.found)
+
+pub returns-clause-only_reads : goal.returns-clause-only_reads
+returns-clause-only_reads g c =
+    let so_far = c.loop-first.invariant in
+    record { kept = so_far.kept; same = so_far.same; counted = so_far.counted; uncounted = tt }

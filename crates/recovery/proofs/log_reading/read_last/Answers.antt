@@ -6,6 +6,7 @@ use Rattle.flush_log.specs.Segments.{place_of_segment, last_segment}
 use Rattle.flush_log.proofs.FitLemmas.{are_sized}
 use Rattle.flush_log.proofs.PlaceLemmas.{place-within}
 use Rattle.recovery.specs.Recovered.{IsReadOf}
+use Rattle.recovery.proofs.ReadBytes.{reads_nothing, reads_with_fault}
 use Rattle.recovery.proofs.ReadLog.{ReadResult, one-scanned, read-last}
 use Rattle.recovery.proofs.log_reading.read_last.Goals as goal
 
@@ -40,3 +41,14 @@ returns-clause-read g c file is =
       front,
       one-scanned format state c.in_ok-segments.segments.items c.push_reserved.new.self.items _ c.push_reserved.ensures.items c.in_ok-segments.ensures.items ∙ whole,
     )
+
+pub returns-in_err-segments-clause-only_reads : goal.returns-in_err-segments-clause-only_reads
+returns-in_err-segments-clause-only_reads g c = reads_nothing g.D.Disk.view g.D.Disk.failed c.args.disk.now c.from_residual.result
+
+pub returns-in_err-read-clause-only_reads : goal.returns-in_err-read-clause-only_reads
+returns-in_err-read-clause-only_reads g c = reads_with_fault g.D.Disk.view g.D.Disk.failed c.args.disk.now c.read.new.disk c.from_residual-in_err-read.result c.in_err-read.field-0.0 c.from_residual-in_err-read.ensures.1 c.in_err-read.ensures.only_reads
+
+pub returns-clause-only_reads : goal.returns-clause-only_reads
+returns-clause-only_reads g c =
+    let ok = c.in_ok-read.ensures.only_reads in
+    record { kept = ok.kept; same = ok.same; counted = ok.counted; uncounted = tt }

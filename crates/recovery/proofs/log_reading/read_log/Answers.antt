@@ -4,7 +4,7 @@ use Rattle.flush_log.specs.Reading.{Found, log_between}
 use Rattle.recovery.specs.Gathered.{AreGathered}
 use Rattle.recovery.specs.Recovered.{IsLate}
 use Rattle.recovery.proofs.FoundWithin.{log-within}
-use Rattle.recovery.proofs.ReadBytes.{uncounted_by, handed_on}
+use Rattle.recovery.proofs.ReadBytes.{handed_on, reads_without_failure, reads_nothing, reads_with_fault}
 use Rattle.recovery.proofs.SoFarLemmas.{gathered-all}
 use Rattle.recovery.proofs.log_reading.read_log.Goals as goal
 
@@ -20,8 +20,8 @@ returns-in_err-resize-clause-read g c file is =
           (λ fault. (log_between format file t.head t.tail ≡ Err fault) ⊎ IsLate failed failed fault) NoMemory c.from_residual.ensures.1 (inr (inl refl)),
     )
 
-pub returns-in_err-resize-clause-uncounted : goal.returns-in_err-resize-clause-uncounted
-returns-in_err-resize-clause-uncounted g c = let failed = g.D.Disk.failed c.args.disk.now in uncounted_by c.from_residual.result failed failed refl
+pub returns-in_err-resize-clause-only_reads : goal.returns-in_err-resize-clause-only_reads
+returns-in_err-resize-clause-only_reads g c = reads_nothing g.D.Disk.view g.D.Disk.failed c.args.disk.now c.from_residual.result
 
 pub returns-in_err-read_segments-clause-read : goal.returns-in_err-read_segments-clause-read
 returns-in_err-read_segments-clause-read g c file is =
@@ -49,3 +49,11 @@ returns-clause-read g c file is =
       gathered-all format c.args.wanted (failed c.args.disk.now) (failed c.read_segments.new.disk) (log_between format now t.head t.tail) (λ found e. log-within format now t.head t.tail found e)
           c.into_gathering.result (c.into_gathering.ensures c.args.wanted (log_between format now t.head t.tail) state),
     )
+
+pub returns-in_err-read_segments-clause-only_reads : goal.returns-in_err-read_segments-clause-only_reads
+returns-in_err-read_segments-clause-only_reads g c = reads_with_fault g.D.Disk.view g.D.Disk.failed c.args.disk.now c.read_segments.new.disk c.from_residual-in_err-read_segments.result c.in_err-read_segments.field-0.0 c.from_residual-in_err-read_segments.ensures.1 c.in_err-read_segments.ensures.only_reads
+
+pub returns-clause-only_reads : goal.returns-clause-only_reads
+returns-clause-only_reads g c =
+    let ok = c.in_ok-read_segments.ensures.only_reads in
+    reads_without_failure g.D.Disk.view g.D.Disk.failed c.args.disk.now c.read_segments.new.disk c.into_gathering.result ok.kept ok.same ok.counted

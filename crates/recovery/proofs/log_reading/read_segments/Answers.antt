@@ -3,7 +3,7 @@ use Rattle.flush_log.specs.Reading.{read_earlier, log_between}
 use Rattle.flush_log.specs.Segments.{last_segment}
 use Rattle.recovery.specs.Gathered.{IsPartialLog}
 use Rattle.recovery.specs.Recovered.{IsLate}
-use Rattle.recovery.proofs.ReadBytes.{IsUncounted, kept_then, same_on, late_since, err_on, not_ok, counted_by, uncounted_by, late_by_memory}
+use Rattle.recovery.proofs.ReadBytes.{late_since, err_on, not_ok, late_by_memory, reads_without_failure, reads_with_fault, reads_then}
 use Rattle.recovery.proofs.ReadLog.{ReadResult, last-taken}
 use Rattle.recovery.proofs.log_reading.read_segments.Goals as goal
 
@@ -23,14 +23,8 @@ returns-in_err-read_earlier-clause-err g c =
     err_on c.from_residual.result (IsLate (failed c.args.disk.now) (failed c.read_earlier.new.disk)) c.in_err-read_earlier.field-0.0
     c.from_residual.ensures.1 c.in_err-read_earlier.ensures.err
 
-pub returns-in_err-read_earlier-clause-counted : goal.returns-in_err-read_earlier-clause-counted
-returns-in_err-read_earlier-clause-counted g c = not_ok c.from_residual.result _ c.in_err-read_earlier.field-0.0 c.from_residual.ensures.1
-
-pub returns-in_err-read_earlier-clause-uncounted : goal.returns-in_err-read_earlier-clause-uncounted
-returns-in_err-read_earlier-clause-uncounted g c =
-    let failed = g.D.Disk.failed in
-    err_on c.from_residual.result (IsUncounted (failed c.args.disk.now) (failed c.read_earlier.new.disk)) c.in_err-read_earlier.field-0.0
-    c.from_residual.ensures.1 c.in_err-read_earlier.ensures.uncounted
+pub returns-in_err-read_earlier-clause-only_reads : goal.returns-in_err-read_earlier-clause-only_reads
+returns-in_err-read_earlier-clause-only_reads g c = reads_with_fault g.D.Disk.view g.D.Disk.failed c.args.disk.now c.read_earlier.new.disk c.from_residual.result c.in_err-read_earlier.field-0.0 c.from_residual.ensures.1 c.in_err-read_earlier.ensures.only_reads
 
 -- the last one was not
 pub returns-in_err-segments-clause-read : goal.returns-in_err-segments-clause-read
@@ -47,26 +41,13 @@ pub returns-in_err-segments-clause-err : goal.returns-in_err-segments-clause-err
 returns-in_err-segments-clause-err g c =
     let failed = g.D.Disk.failed in
     err_on c.from_residual-in_err-segments.result (IsLate (failed c.args.disk.now) (failed c.read_last.new.disk)) c.in_err-segments.field-0.0 c.from_residual-in_err-segments.ensures.1
-    (late_since _ _ _ _ c.in_ok-read_earlier.ensures.counted c.in_err-segments.ensures.err)
+    (late_since _ _ _ _ c.in_ok-read_earlier.ensures.only_reads.counted c.in_err-segments.ensures.err)
 
-pub returns-in_err-segments-clause-kept : goal.returns-in_err-segments-clause-kept
-returns-in_err-segments-clause-kept g c =
-    let view = g.D.Disk.view in
-    kept_then (view c.args.disk.now) (view c.read_earlier.new.disk) (view c.read_last.new.disk) c.read_earlier.ensures.kept c.read_last.ensures.kept
-
-pub returns-in_err-segments-clause-same : goal.returns-in_err-segments-clause-same
-returns-in_err-segments-clause-same g c =
-    let view = g.D.Disk.view in
-    same_on (view c.args.disk.now) (view c.read_earlier.new.disk) (view c.read_last.new.disk) c.read_earlier.ensures.kept c.read_earlier.ensures.same c.read_last.ensures.same
-
-pub returns-in_err-segments-clause-counted : goal.returns-in_err-segments-clause-counted
-returns-in_err-segments-clause-counted g c = not_ok c.from_residual-in_err-segments.result _ c.in_err-segments.field-0.0 c.from_residual-in_err-segments.ensures.1
-
-pub returns-in_err-segments-clause-uncounted : goal.returns-in_err-segments-clause-uncounted
-returns-in_err-segments-clause-uncounted g c =
-    let failed = g.D.Disk.failed in
-    err_on c.from_residual-in_err-segments.result (IsUncounted (failed c.args.disk.now) (failed c.read_last.new.disk)) c.in_err-segments.field-0.0 c.from_residual-in_err-segments.ensures.1
-    (λ other. c.in_err-segments.ensures.uncounted other ∙ c.in_ok-read_earlier.ensures.counted)
+pub returns-in_err-segments-clause-only_reads : goal.returns-in_err-segments-clause-only_reads
+returns-in_err-segments-clause-only_reads g c =
+    let earlier = c.in_ok-read_earlier.ensures.only_reads in
+    reads_with_fault g.D.Disk.view g.D.Disk.failed c.args.disk.now c.read_last.new.disk c.from_residual-in_err-segments.result c.in_err-segments.field-0.0 c.from_residual-in_err-segments.ensures.1
+    (reads_then g.D.Disk.view g.D.Disk.failed c.args.disk.now c.read_earlier.new.disk c.read_last.new.disk _ earlier.kept earlier.same earlier.counted c.in_err-segments.ensures.only_reads)
 
 -- all were read
 pub returns-clause-read : goal.returns-clause-read
@@ -81,22 +62,8 @@ returns-clause-read g c w file is none =
 pub returns-clause-err : goal.returns-clause-err
 returns-clause-err g c = let failed = g.D.Disk.failed in late_by_memory c.take.result (failed c.args.disk.now) (failed c.read_last.new.disk) c.take.ensures.err
 
-pub returns-clause-kept : goal.returns-clause-kept
-returns-clause-kept g c =
-    let view = g.D.Disk.view in
-    kept_then (view c.args.disk.now) (view c.read_earlier.new.disk) (view c.read_last.new.disk) c.read_earlier.ensures.kept c.read_last.ensures.kept
-
-pub returns-clause-same : goal.returns-clause-same
-returns-clause-same g c =
-    let view = g.D.Disk.view in
-    same_on (view c.args.disk.now) (view c.read_earlier.new.disk) (view c.read_last.new.disk) c.read_earlier.ensures.kept c.read_earlier.ensures.same c.read_last.ensures.same
-
-pub returns-clause-counted : goal.returns-clause-counted
-returns-clause-counted g c =
-    let failed = g.D.Disk.failed in
-    counted_by c.take.result (failed c.args.disk.now) (failed c.read_last.new.disk) (c.in_ok-segments.ensures.counted ∙ c.in_ok-read_earlier.ensures.counted)
-
-pub returns-clause-uncounted : goal.returns-clause-uncounted
-returns-clause-uncounted g c =
-    let failed = g.D.Disk.failed in
-    uncounted_by c.take.result (failed c.args.disk.now) (failed c.read_last.new.disk) (c.in_ok-segments.ensures.counted ∙ c.in_ok-read_earlier.ensures.counted)
+pub returns-clause-only_reads : goal.returns-clause-only_reads
+returns-clause-only_reads g c =
+    let earlier = c.in_ok-read_earlier.ensures.only_reads in
+    let ok = reads_then g.D.Disk.view g.D.Disk.failed c.args.disk.now c.read_earlier.new.disk c.read_last.new.disk _ earlier.kept earlier.same earlier.counted c.in_ok-segments.ensures.only_reads in
+    reads_without_failure g.D.Disk.view g.D.Disk.failed c.args.disk.now c.read_last.new.disk c.take.result ok.kept ok.same ok.counted

@@ -8,7 +8,7 @@ use Rattle.flush_log.proofs.FitLemmas.{are_sized}
 use Rattle.flush_log.proofs.PlaceLemmas.{place-within}
 use Rattle.recovery.specs.Recovered.{IsReadOf, IsLate}
 use Rattle.recovery.specs.Scan.{held_segment}
-use Rattle.recovery.proofs.ReadBytes.{IsUncounted, kept_self, same_self, kept_then, same_then, late_since, err_on, not_ok, nothing_of, counted_by, uncounted_by}
+use Rattle.recovery.proofs.ReadBytes.{kept_then, same_then, late_since, err_on, nothing_of, reads_nothing, reads_with_fault, reads_then}
 use Rattle.recovery.proofs.ReadLog.{one-left, following-next, following-all}
 use Rattle.recovery.proofs.log_reading.read_whole.Goals as goal
 
@@ -30,17 +30,8 @@ returns-in_err-segments-clause-read g c file head is low high = (file, is, refl,
 pub returns-in_err-segments-clause-short : goal.returns-in_err-segments-clause-short
 returns-in_err-segments-clause-short g c = nothing_of c.from_residual.result _ c.from_residual.ensures.0
 
-pub returns-in_err-segments-clause-kept : goal.returns-in_err-segments-clause-kept
-returns-in_err-segments-clause-kept g c = kept_self (g.D.Disk.view c.args.disk.now)
-
-pub returns-in_err-segments-clause-same : goal.returns-in_err-segments-clause-same
-returns-in_err-segments-clause-same g c _ = same_self (g.D.Disk.view c.args.disk.now)
-
-pub returns-in_err-segments-clause-counted : goal.returns-in_err-segments-clause-counted
-returns-in_err-segments-clause-counted g c = counted_by c.from_residual.result (g.D.Disk.failed c.args.disk.now) (g.D.Disk.failed c.args.disk.now) refl
-
-pub returns-in_err-segments-clause-uncounted : goal.returns-in_err-segments-clause-uncounted
-returns-in_err-segments-clause-uncounted g c = uncounted_by c.from_residual.result (g.D.Disk.failed c.args.disk.now) (g.D.Disk.failed c.args.disk.now) refl
+pub returns-in_err-segments-clause-only_reads : goal.returns-in_err-segments-clause-only_reads
+returns-in_err-segments-clause-only_reads g c = reads_nothing g.D.Disk.view g.D.Disk.failed c.args.disk.now c.from_residual.result
 
 pub returns-in_err-segments-clause-err : goal.returns-in_err-segments-clause-err
 returns-in_err-segments-clause-err g c =
@@ -62,25 +53,11 @@ returns-in_err-read-clause-err g c =
     err_on c.from_residual-in_err-read.result (IsLate (failed c.args.disk.now) (failed c.read.new.disk)) c.in_err-read.field-0.0 c.from_residual-in_err-read.ensures.1
     (late_since _ _ _ _ c.loop-number.invariant.counted c.in_err-read.ensures.device)
 
-pub returns-in_err-read-clause-kept : goal.returns-in_err-read-clause-kept
-returns-in_err-read-clause-kept g c =
-    let view = g.D.Disk.view in
-    kept_then (view c.args.disk.now) (view c.loop-number.disk) (view c.read.new.disk) c.loop-number.invariant.kept c.read.ensures.kept
-
-pub returns-in_err-read-clause-counted : goal.returns-in_err-read-clause-counted
-returns-in_err-read-clause-counted g c = not_ok c.from_residual-in_err-read.result _ c.in_err-read.field-0.0 c.from_residual-in_err-read.ensures.1
-
-pub returns-in_err-read-clause-uncounted : goal.returns-in_err-read-clause-uncounted
-returns-in_err-read-clause-uncounted g c =
-    let failed = g.D.Disk.failed in
-    err_on c.from_residual-in_err-read.result (IsUncounted (failed c.args.disk.now) (failed c.read.new.disk)) c.in_err-read.field-0.0 c.from_residual-in_err-read.ensures.1
-    (λ other. c.in_err-read.ensures.uncounted other ∙ c.loop-number.invariant.counted)
-
-pub returns-in_err-read-clause-same : goal.returns-in_err-read-clause-same
-returns-in_err-read-clause-same g c honest =
-    let view = g.D.Disk.view in
+pub returns-in_err-read-clause-only_reads : goal.returns-in_err-read-clause-only_reads
+returns-in_err-read-clause-only_reads g c =
     let so_far = c.loop-number.invariant in
-    same_then (view c.args.disk.now) (view c.loop-number.disk) (view c.read.new.disk) (so_far.same honest) (c.read.ensures.same (so_far.kept.honest ∙ honest))
+    reads_with_fault g.D.Disk.view g.D.Disk.failed c.args.disk.now c.read.new.disk c.from_residual-in_err-read.result c.in_err-read.field-0.0 c.from_residual-in_err-read.ensures.1
+    (reads_then g.D.Disk.view g.D.Disk.failed c.args.disk.now c.loop-number.disk c.read.new.disk _ so_far.kept so_far.same so_far.counted c.in_err-read.ensures.only_reads)
 
 pub loop-number-preserved : goal.loop-number-preserved
 loop-number-preserved g c =
@@ -109,9 +86,9 @@ loop-number-preserved g c =
       read_so_far = search rules;
       room = search rules;
       short = subst (λ hs. All (λ h. length (held_segment h).bytes < 2 ^ 32) hs) (sym c.push_reserved.ensures.items) (All-push (λ h. length (held_segment h).bytes < 2 ^ 32) c.loop-number.segments.items _ so_far.short (omega (arith, same, front, most)));
-      kept = kept_then start old new so_far.kept c.read.ensures.kept;
-      same = λ honest. same_then start old new (so_far.same honest) (c.read.ensures.same (so_far.kept.honest ∙ honest));
-      counted = read.counted ∙ so_far.counted;
+      kept = kept_then start old new so_far.kept c.read.ensures.only_reads.kept;
+      same = λ honest. same_then start old new (so_far.same honest) (c.read.ensures.only_reads.same (so_far.kept.honest ∙ honest));
+      counted = read.only_reads.counted ∙ so_far.counted;
       read = λ file head is low high.
           let (now, upto) = so_far.read file head is low high in
           let at : n ≡ head + (n - head) = omega (arith, low, from) in (
@@ -139,17 +116,10 @@ returns-clause-read g c file head is low high =
 pub returns-clause-short : goal.returns-clause-short
 returns-clause-short g c = c.loop-number.invariant.short
 
-pub returns-clause-kept : goal.returns-clause-kept
-returns-clause-kept g c = c.loop-number.invariant.kept
-
-pub returns-clause-same : goal.returns-clause-same
-returns-clause-same g c honest = c.loop-number.invariant.same honest
-
-pub returns-clause-counted : goal.returns-clause-counted
-returns-clause-counted g c = c.loop-number.invariant.counted
+pub returns-clause-only_reads : goal.returns-clause-only_reads
+returns-clause-only_reads g c =
+    let so_far = c.loop-number.invariant in
+    record { kept = so_far.kept; same = so_far.same; counted = so_far.counted; uncounted = tt }
 
 pub returns-clause-err : goal.returns-clause-err
 returns-clause-err g c = tt
-
-pub returns-clause-uncounted : goal.returns-clause-uncounted
-returns-clause-uncounted g c = tt

@@ -5,17 +5,13 @@ use Rattle.recovery.specs.Recovered.{IsLate}
 use Rattle.recovery.proofs.ReadBytes.{IsUncounted, read_after, err_on, nothing_of}
 use Rattle.recovery.proofs.read_bytes.read.Goals as goal
 
-pub returns-in_err-read_at-clause-kept : goal.returns-in_err-read_at-clause-kept
-returns-in_err-read_at-clause-kept g c = c.read_at.ensures.kept
-
-pub returns-in_err-read_at-clause-same : goal.returns-in_err-read_at-clause-same
-returns-in_err-read_at-clause-same g c = c.read_at.ensures.same
-
-pub returns-in_err-read_at-clause-counted : goal.returns-in_err-read_at-clause-counted
-returns-in_err-read_at-clause-counted g c = nothing_of c.from_residual.result _ c.from_residual.ensures.0
-
-pub returns-in_err-read_at-clause-uncounted : goal.returns-in_err-read_at-clause-uncounted
-returns-in_err-read_at-clause-uncounted g c = err_on c.from_residual.result (IsUncounted (g.D.Disk.failed c.args.disk.now) (g.D.Disk.failed c.read_at.new.self)) Device c.from_residual.ensures.1 (λ other. absurd (other refl))
+pub returns-in_err-read_at-clause-only_reads : goal.returns-in_err-read_at-clause-only_reads
+returns-in_err-read_at-clause-only_reads g c = record {
+  kept = c.read_at.ensures.kept;
+  same = c.read_at.ensures.same;
+  counted = nothing_of c.from_residual.result _ c.from_residual.ensures.0;
+  uncounted = err_on c.from_residual.result (IsUncounted (g.D.Disk.failed c.args.disk.now) (g.D.Disk.failed c.read_at.new.self)) Device c.from_residual.ensures.1 (λ other. absurd (other refl));
+}
 
 pub returns-in_err-read_at-clause-device : goal.returns-in_err-read_at-clause-device
 returns-in_err-read_at-clause-device g c =
@@ -28,17 +24,8 @@ returns-in_err-read_at-clause-stays g c file is = read_after (g.D.Disk.view c.ar
 pub returns-in_err-read_at-clause-bytes : goal.returns-in_err-read_at-clause-bytes
 returns-in_err-read_at-clause-bytes g c file is = nothing_of c.from_residual.result _ c.from_residual.ensures.0
 
-pub returns-clause-kept : goal.returns-clause-kept
-returns-clause-kept g c = c.read_at.ensures.kept
-
-pub returns-clause-same : goal.returns-clause-same
-returns-clause-same g c = c.read_at.ensures.same
-
-pub returns-clause-counted : goal.returns-clause-counted
-returns-clause-counted g c = c.in_ok-read_at.ensures.failed
-
-pub returns-clause-uncounted : goal.returns-clause-uncounted
-returns-clause-uncounted g c = tt
+pub returns-clause-only_reads : goal.returns-clause-only_reads
+returns-clause-only_reads g c = record { kept = c.read_at.ensures.kept; same = c.read_at.ensures.same; counted = c.in_ok-read_at.ensures.failed; uncounted = tt }
 
 pub returns-clause-device : goal.returns-clause-device
 returns-clause-device g c = tt

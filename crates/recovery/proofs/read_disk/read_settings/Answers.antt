@@ -2,7 +2,7 @@ use Rattle.std.proofs.Common.{arith, inl, rules}
 use Rattle.flush_log.specs.SettingsBlock.{store_settings}
 use Rattle.flush_log.specs.Overlay.{overlay}
 use Rattle.recovery.specs.Recovered.{IsLate}
-use Rattle.recovery.proofs.ReadBytes.{IsUncounted, first_read, as_read, err_on, uncounted_by}
+use Rattle.recovery.proofs.ReadBytes.{first_read, as_read, reads_without_failure, reads_nothing, reads_with_fault}
 use Rattle.recovery.proofs.ReadBlock.{too_short, block-start}
 use Rattle.recovery.proofs.read_disk.read_settings.Goals as goal
 
@@ -25,13 +25,16 @@ returns-clause-read g c =
       now,
       is_now,
       as_read (store_settings now) (IsLate (g.D.Disk.failed c.args.disk.now) (g.D.Disk.failed c.read.new.disk)) c.settings_in.result
-          (c.settings_in.ensures.read now (block-start file c.read.new.buf (let w = is.whole in omega arith) (omega (arith, long))) (let w = is_now.whole in let k = c.read.ensures.kept.size in omega (arith, w, k))),
+          (c.settings_in.ensures.read now (block-start file c.read.new.buf (let w = is.whole in omega arith) (omega (arith, long))) (let w = is_now.whole in let k = c.read.ensures.only_reads.kept.size in omega (arith, w, k))),
     )
 
-pub returns-in_err-read-clause-uncounted : goal.returns-in_err-read-clause-uncounted
-returns-in_err-read-clause-uncounted g c =
-    let failed = g.D.Disk.failed in
-    err_on c.from_residual.result (IsUncounted (failed c.args.disk.now) (failed c.read.new.disk)) c.in_err-read.field-0.0 c.from_residual.ensures.1 c.in_err-read.ensures.uncounted
+pub returns-then-len-clause-only_reads : goal.returns-then-len-clause-only_reads
+returns-then-len-clause-only_reads g c = reads_nothing g.D.Disk.view g.D.Disk.failed c.args.disk.now _
 
-pub returns-clause-uncounted : goal.returns-clause-uncounted
-returns-clause-uncounted g c = uncounted_by c.settings_in.result (g.D.Disk.failed c.args.disk.now) (g.D.Disk.failed c.read.new.disk) c.in_ok-read.ensures.counted
+pub returns-in_err-read-clause-only_reads : goal.returns-in_err-read-clause-only_reads
+returns-in_err-read-clause-only_reads g c = reads_with_fault g.D.Disk.view g.D.Disk.failed c.args.disk.now c.read.new.disk c.from_residual.result c.in_err-read.field-0.0 c.from_residual.ensures.1 c.in_err-read.ensures.only_reads
+
+pub returns-clause-only_reads : goal.returns-clause-only_reads
+returns-clause-only_reads g c =
+    let ok = c.in_ok-read.ensures.only_reads in
+    reads_without_failure g.D.Disk.view g.D.Disk.failed c.args.disk.now c.read.new.disk c.settings_in.result ok.kept ok.same ok.counted

@@ -2,7 +2,7 @@ use Rattle.std.proofs.Common.{◌≡◌, ◌⊎◌, Ok, Err, ◌∙◌, arith, i
 use Rattle.flush_log.specs.Overlay.{overlay}
 use Rattle.flush_log.specs.Slot.{store_slot}
 use Rattle.recovery.specs.Recovered.{IsLate}
-use Rattle.recovery.proofs.ReadBytes.{IsUncounted, as_read, handed_on, err_on, uncounted_by}
+use Rattle.recovery.proofs.ReadBytes.{as_read, handed_on, reads_without_failure, reads_with_fault}
 use Rattle.recovery.proofs.ReadSlots.{slots-settings, slots-read}
 use Rattle.recovery.proofs.read_disk.read_store_slot.Goals as goal
 
@@ -31,10 +31,10 @@ returns-clause-read g c file is settings =
           (c.slot_in.ensures.read now (slots-read file slots (omega (arith, whole, within)) (omega (arith, long)))),
     )
 
-pub returns-in_err-read-clause-uncounted : goal.returns-in_err-read-clause-uncounted
-returns-in_err-read-clause-uncounted g c =
-    let failed = g.D.Disk.failed in
-    err_on c.from_residual.result (IsUncounted (failed c.args.disk.now) (failed c.read.new.disk)) c.in_err-read.field-0.0 c.from_residual.ensures.1 c.in_err-read.ensures.uncounted
+pub returns-in_err-read-clause-only_reads : goal.returns-in_err-read-clause-only_reads
+returns-in_err-read-clause-only_reads g c = reads_with_fault g.D.Disk.view g.D.Disk.failed c.args.disk.now c.read.new.disk c.from_residual.result c.in_err-read.field-0.0 c.from_residual.ensures.1 c.in_err-read.ensures.only_reads
 
-pub returns-clause-uncounted : goal.returns-clause-uncounted
-returns-clause-uncounted g c = uncounted_by c.slot_in.result (g.D.Disk.failed c.args.disk.now) (g.D.Disk.failed c.read.new.disk) c.in_ok-read.ensures.counted
+pub returns-clause-only_reads : goal.returns-clause-only_reads
+returns-clause-only_reads g c =
+    let ok = c.in_ok-read.ensures.only_reads in
+    reads_without_failure g.D.Disk.view g.D.Disk.failed c.args.disk.now c.read.new.disk c.slot_in.result ok.kept ok.same ok.counted

@@ -4,17 +4,21 @@ use Rattle.flush_log.specs.Ends.{ends_in, AreEnds}
 use Rattle.flush_log.specs.Reading.{log}
 use Rattle.flush_log.specs.Slot.{Slot}
 use Rattle.flush_log.proofs.SlotLemmas.{ends-are}
-use Rattle.recovery.proofs.ReadBytes.{IsUncounted, kept_then, err_on, same_on, read_before, late_since}
+use Rattle.recovery.proofs.ReadBytes.{kept_then, read_before, late_since, reads_with_fault, reads_then}
 use Rattle.recovery.proofs.RecoverLemmas.{in-front, no_slot, no_log}
 use Rattle.recovery.proofs.recovered.read_parts.Goals as goal
 
 pub read_log-requires-clause-ends : goal.read_log-requires-clause-ends
 read_log-requires-clause-ends g c = λ κs within. subst (λ (t : Slot). AreEnds c.in_ok-settings.settings (ends_in t)) (sym c.slot.view_is) (ends-are c.in_ok-settings.settings c.in_ok-slot.slot c.in_ok-slot.ensures.slot)
 
-pub returns-in_err-slot-clause-same : goal.returns-in_err-slot-clause-same
-returns-in_err-slot-clause-same g c =
-    let view = g.D.Disk.view in
-    same_on (view c.args.disk.now) (view c.read_settings.new.disk) (view c.read_store_slot.new.disk) c.in_ok-settings.ensures.kept c.in_ok-settings.ensures.same c.in_err-slot.ensures.same
+pub returns-in_err-settings-clause-only_reads : goal.returns-in_err-settings-clause-only_reads
+returns-in_err-settings-clause-only_reads g c = reads_with_fault g.D.Disk.view g.D.Disk.failed c.args.disk.now c.read_settings.new.disk c.from_residual.result c.in_err-settings.field-0.0 c.from_residual.ensures.1 c.in_err-settings.ensures.only_reads
+
+pub returns-in_err-slot-clause-only_reads : goal.returns-in_err-slot-clause-only_reads
+returns-in_err-slot-clause-only_reads g c =
+    let first = c.in_ok-settings.ensures.only_reads in
+    reads_with_fault g.D.Disk.view g.D.Disk.failed c.args.disk.now c.read_store_slot.new.disk c.from_residual-in_err-slot.result c.in_err-slot.field-0.0 c.from_residual-in_err-slot.ensures.1
+    (reads_then g.D.Disk.view g.D.Disk.failed c.args.disk.now c.read_settings.new.disk c.read_store_slot.new.disk _ first.kept first.same first.counted c.in_err-slot.ensures.only_reads)
 
 pub returns-in_err-slot-clause-read : goal.returns-in_err-slot-clause-read
 returns-in_err-slot-clause-read g c =
@@ -24,21 +28,20 @@ returns-in_err-slot-clause-read g c =
     let new = view c.read_store_slot.new.disk in
     let (file, read, is) = c.in_ok-settings.ensures.read in
     let (now, got, settings, state) = c.in_err-slot.ensures.read file read is in
+    let reads = returns-in_err-slot-clause-only_reads g c in
     let p = err_from_is_err_and c.from_residual-in_err-slot.result c.from_residual-in_err-slot.ensures.1 in
     rw (p.1, p.2) (
       now,
-      read_before old new now (kept_then old mid new c.in_ok-settings.ensures.kept c.in_err-slot.ensures.kept) (returns-in_err-slot-clause-same g c) got,
-      ⊎_elim (λ wrong. inl (no_slot now _ settings _ wrong)) (λ late. inr (late_since _ _ _ _ c.in_ok-settings.ensures.counted late)) state,
+      read_before old new now reads.kept reads.same got,
+      ⊎_elim (λ wrong. inl (no_slot now _ settings _ wrong)) (λ late. inr (late_since _ _ _ _ c.in_ok-settings.ensures.only_reads.counted late)) state,
     )
 
-pub returns-in_err-gathering-clause-same : goal.returns-in_err-gathering-clause-same
-returns-in_err-gathering-clause-same g c =
-    let view = g.D.Disk.view in
-    let old = view c.args.disk.now in
-    let mid = view c.read_settings.new.disk in
-    let later = view c.read_store_slot.new.disk in
-    same_on old later (view c.read_log.new.disk) (kept_then old mid later c.in_ok-settings.ensures.kept c.in_ok-slot.ensures.kept)
-    (same_on old mid later c.in_ok-settings.ensures.kept c.in_ok-settings.ensures.same c.in_ok-slot.ensures.same) c.in_err-gathering.ensures.same
+pub returns-in_err-gathering-clause-only_reads : goal.returns-in_err-gathering-clause-only_reads
+returns-in_err-gathering-clause-only_reads g c =
+    let first = c.in_ok-settings.ensures.only_reads in
+    let both = reads_then g.D.Disk.view g.D.Disk.failed c.args.disk.now c.read_settings.new.disk c.read_store_slot.new.disk _ first.kept first.same first.counted c.in_ok-slot.ensures.only_reads in
+    reads_with_fault g.D.Disk.view g.D.Disk.failed c.args.disk.now c.read_log.new.disk c.from_residual-in_err-gathering.result c.in_err-gathering.field-0.0 c.from_residual-in_err-gathering.ensures.1
+    (reads_then g.D.Disk.view g.D.Disk.failed c.args.disk.now c.read_store_slot.new.disk c.read_log.new.disk _ both.kept both.same both.counted c.in_err-gathering.ensures.only_reads)
 
 pub returns-in_err-gathering-clause-read : goal.returns-in_err-gathering-clause-read
 returns-in_err-gathering-clause-read g c =
@@ -50,24 +53,22 @@ returns-in_err-gathering-clause-read g c =
     let (file, read, is) = c.in_ok-settings.ensures.read in
     let (next, then, settings, slot) = c.in_ok-slot.ensures.read file read is in
     let (now, got, front, state) = c.in_err-gathering.ensures.read next then in
-    let (same, stays) = in-front c.in_ok-settings.settings next now old later new c.in_ok-settings.ensures.good.1 (kept_then old mid later c.in_ok-settings.ensures.kept c.in_ok-slot.ensures.kept) c.in_err-gathering.ensures.kept then got front _ settings slot in
+    let reads = returns-in_err-gathering-clause-only_reads g c in
+    let (same, stays) = in-front c.in_ok-settings.settings next now old later new c.in_ok-settings.ensures.good.1 (kept_then old mid later c.in_ok-settings.ensures.only_reads.kept c.in_ok-slot.ensures.only_reads.kept) c.in_err-gathering.ensures.only_reads.kept then got front _ settings slot in
     let p = err_from_is_err_and c.from_residual-in_err-gathering.result c.from_residual-in_err-gathering.ensures.1 in
     rw (p.1, p.2) (
       now,
-      read_before old new now (kept_then old later new (kept_then old mid later c.in_ok-settings.ensures.kept c.in_ok-slot.ensures.kept) c.in_err-gathering.ensures.kept)
-          (returns-in_err-gathering-clause-same g c) got,
+      read_before old new now reads.kept reads.same got,
       ⊎_elim (λ wrong. inl (no_log now _ same _ stays _ (ap (λ (t : Slot). log c.in_ok-settings.settings now t) (sym c.slot.view_is) ∙ wrong)))
-          (λ late. inr (late_since _ _ _ _ c.in_ok-settings.ensures.counted (late_since _ _ _ _ c.in_ok-slot.ensures.counted late))) state,
+          (λ late. inr (late_since _ _ _ _ c.in_ok-settings.ensures.only_reads.counted (late_since _ _ _ _ c.in_ok-slot.ensures.only_reads.counted late))) state,
     )
 
-pub returns-clause-same : goal.returns-clause-same
-returns-clause-same g c =
-    let view = g.D.Disk.view in
-    let old = view c.args.disk.now in
-    let mid = view c.read_settings.new.disk in
-    let later = view c.read_store_slot.new.disk in
-    same_on old later (view c.read_log.new.disk) (kept_then old mid later c.in_ok-settings.ensures.kept c.in_ok-slot.ensures.kept)
-    (same_on old mid later c.in_ok-settings.ensures.kept c.in_ok-settings.ensures.same c.in_ok-slot.ensures.same) c.in_ok-gathering.ensures.same
+pub returns-clause-only_reads : goal.returns-clause-only_reads
+returns-clause-only_reads g c =
+    let first = c.in_ok-settings.ensures.only_reads in
+    let both = reads_then g.D.Disk.view g.D.Disk.failed c.args.disk.now c.read_settings.new.disk c.read_store_slot.new.disk _ first.kept first.same first.counted c.in_ok-slot.ensures.only_reads in
+    let all = reads_then g.D.Disk.view g.D.Disk.failed c.args.disk.now c.read_store_slot.new.disk c.read_log.new.disk _ both.kept both.same both.counted c.in_ok-gathering.ensures.only_reads in
+    record { kept = all.kept; same = all.same; counted = all.counted; uncounted = tt }
 
 pub returns-clause-read : goal.returns-clause-read
 returns-clause-read g c =
@@ -79,27 +80,10 @@ returns-clause-read g c =
     let (file, read, is) = c.in_ok-settings.ensures.read in
     let (next, then, settings, slot) = c.in_ok-slot.ensures.read file read is in
     let (now, got, front, state) = c.in_ok-gathering.ensures.read next then in
-    let (same, stays) = in-front c.in_ok-settings.settings next now old later new c.in_ok-settings.ensures.good.1 (kept_then old mid later c.in_ok-settings.ensures.kept c.in_ok-slot.ensures.kept) c.in_ok-gathering.ensures.kept then got front _ settings slot in
+    let reads = returns-clause-only_reads g c in
+    let (same, stays) = in-front c.in_ok-settings.settings next now old later new c.in_ok-settings.ensures.good.1 (kept_then old mid later c.in_ok-settings.ensures.only_reads.kept c.in_ok-slot.ensures.only_reads.kept) c.in_ok-gathering.ensures.only_reads.kept then got front _ settings slot in
     let (found, is_log, gathered) = state in (
       now,
-      read_before old new now (kept_then old later new (kept_then old mid later c.in_ok-settings.ensures.kept c.in_ok-slot.ensures.kept) c.in_ok-gathering.ensures.kept)
-          (returns-clause-same g c) got,
+      read_before old new now reads.kept reads.same got,
       record { settings = same; slot = stays; found = found; log = ap (λ (t : Slot). log c.in_ok-settings.settings now t) (sym c.slot.view_is) ∙ is_log; gathered = gathered },
     )
-
-pub returns-in_err-settings-clause-uncounted : goal.returns-in_err-settings-clause-uncounted
-returns-in_err-settings-clause-uncounted g c =
-    let failed = g.D.Disk.failed in
-    err_on c.from_residual.result (IsUncounted (failed c.args.disk.now) (failed c.read_settings.new.disk)) c.in_err-settings.field-0.0 c.from_residual.ensures.1 c.in_err-settings.ensures.uncounted
-
-pub returns-in_err-slot-clause-uncounted : goal.returns-in_err-slot-clause-uncounted
-returns-in_err-slot-clause-uncounted g c =
-    let failed = g.D.Disk.failed in
-    err_on c.from_residual-in_err-slot.result (IsUncounted (failed c.args.disk.now) (failed c.read_store_slot.new.disk)) c.in_err-slot.field-0.0 c.from_residual-in_err-slot.ensures.1
-    (λ other. c.in_err-slot.ensures.uncounted other ∙ c.in_ok-settings.ensures.counted)
-
-pub returns-in_err-gathering-clause-uncounted : goal.returns-in_err-gathering-clause-uncounted
-returns-in_err-gathering-clause-uncounted g c =
-    let failed = g.D.Disk.failed in
-    err_on c.from_residual-in_err-gathering.result (IsUncounted (failed c.args.disk.now) (failed c.read_log.new.disk)) c.in_err-gathering.field-0.0 c.from_residual-in_err-gathering.ensures.1
-    (λ other. c.in_err-gathering.ensures.uncounted other ∙ c.in_ok-slot.ensures.counted ∙ c.in_ok-settings.ensures.counted)

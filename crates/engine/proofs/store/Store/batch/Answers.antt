@@ -1,10 +1,11 @@
 use Rattle.std.proofs.Common.{◌≡◌, true, false, rules, refl, ap, sym, subst, ◌<◌, ◌^◌}
 use Rattle.std.proofs.lemmas.Result.{err_from_is_err_and}
+use Rattle.mapping.specs.Tree.{Tree}
 use Rattle.mapping.specs.TreeInMemory.{TreeInMemory}
 use Rattle.engine.specs.Refusal.{is_crew, refusal}
 use Rattle.engine.specs.State.{IsSound, IsSoundStore, state_of}
 use Rattle.engine.proofs.Admitted.{admitted, passed_by, refused_by_own}
-use Rattle.engine.proofs.BatchDone.{batched-sound, unrefused}
+use Rattle.engine.proofs.BatchDone.{batched-sound, planned-is, unrefused}
 use Rattle.engine.proofs.RefusedCalls.{not_both}
 use Rattle.engine.proofs.store.Store.batch.Goals as goal
 
@@ -112,25 +113,23 @@ invariant_of-self-2 g c =
     (subst (λ b. IsSoundStore g.D.Disk.view s t c.self.inside.log c.self.inside.version c.self.inside.disk b) c.if-self.false c.self.invariant)
     c.execute.ensures.sound.home planned none words c.a_batch_stays_in_step.ensures.kept c.a_batch_stays_in_step.ensures.step)
 
-pub returns-clause-replies : goal.returns-clause-replies
-returns-clause-replies g c = rw (← c.self.view_is) c.in_ok-replies.ensures.replies
-
-pub returns-clause-contents : goal.returns-clause-contents
-returns-clause-contents g c = rw (← c.self.view_is) c.in_ok-replies.ensures.contents
-
-pub returns-clause-rest : goal.returns-clause-rest
-returns-clause-rest g c = rw (← c.self.view_is) (refl, refl, refl)
-
-pub returns-clause-failed : goal.returns-clause-failed
-returns-clause-failed g c = rw (← c.self.view_is) (λ bad. absurd (not_both c.self.inside.has_failed bad c.if-self.false))
-
-pub returns-clause-bad_crew : goal.returns-clause-bad_crew
-returns-clause-bad_crew g c _ bad = absurd (not_both (is_crew c.args.crew) c.in_ok-admit_crew.ensures.ok bad)
-
-pub returns-clause-refused : goal.returns-clause-refused
-returns-clause-refused g c = rw (← c.self.view_is) (λ _ _.
-    let own = passed_by (refusal c.self.inside.settings c.args.commands.now) c.admit.result tt c.in_ok-admit.field-0 c.admit.ensures c.in_ok-admit.was in
-    rw own tt)
-
-pub returns-clause-sound : goal.returns-clause-sound
-returns-clause-sound g c = (rw (← c.self.view_is) c.self.invariant.sound, (invariant_of-self-2 g c).sound)
+pub returns : goal.returns
+returns g c = rw (← c.self.view_is) (
+    let s = c.self.inside.settings in
+    let t = c.self.inside.tree in
+    let cs = c.args.commands.now in
+    let own = passed_by (refusal s cs) c.admit.result tt c.in_ok-admit.field-0 c.admit.ensures c.in_ok-admit.was in
+    let planned = c.in_ok-replies.ensures.tree in
+    let words : c.execute.new.tree.root < 2 ^ 64 = (search rules) in
+    record {
+      replies = c.in_ok-replies.ensures.replies;
+      store = planned-is s t c.execute.new.tree c.self.inside.log c.self.inside.version cs planned;
+      contents = c.in_ok-replies.ensures.contents;
+      rest = (refl, refl, refl);
+      failed = λ bad. absurd (not_both c.self.inside.has_failed bad c.if-self.false);
+      bad_crew = λ _ bad. absurd (not_both (is_crew c.args.crew) c.in_ok-admit_crew.ensures.ok bad);
+      refused = λ _ _. rw own tt;
+      unchanged = tt;
+      allowed = (unrefused s t c.execute.new.tree cs own c.execute.ensures.sound.sound.height planned, subst (λ (x : Tree). x.root < 2 ^ 64) planned words);
+      sound = (c.self.invariant.sound, (invariant_of-self-2 g c).sound);
+    })

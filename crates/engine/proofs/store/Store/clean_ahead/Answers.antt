@@ -1,5 +1,6 @@
 use Rattle.std.proofs.Common.{◌∙◌, inl, inr, refl, ⊎_elim, arith}
 use Rattle.std.proofs.lemmas.Result.{err_from_is_err_and}
+use Rattle.engine.proofs.AsBefore.{refused_clean}
 use Rattle.engine.proofs.CleansLemmas.{none_on, stopped_on, read_then, read_then_stopped, some_done, some_stopped}
 use Rattle.engine.proofs.EarlyLemmas.{done_on}
 use Rattle.engine.proofs.store.Store.clean_ahead.Goals as goal
@@ -9,7 +10,7 @@ returns-in_err-reading-clause-stopped g c =
     let old = c.args.self.now in
     let refused = c.in_err-reading.ensures.refused in
     let p = err_from_is_err_and c.from_residual.result c.from_residual.ensures.1 in
-    rw (p.1, p.2) (0, c.requires.some, inl (refl, refused.store), stopped_on g.D.Disk.view g.D.Disk.failed g.met.D.Disk.lawful old 0 old (none_on g.D.Disk.view g.D.Disk.failed g.met.D.Disk.lawful old) c.read_ahead.new.self _ refused)
+    rw (p.1, p.2) (0, c.requires.some, inl (refl, (refused_clean g.D.Disk.view g.D.Disk.failed old c.read_ahead.new.self _ refused).unchanged), stopped_on g.D.Disk.view g.D.Disk.failed g.met.D.Disk.lawful old 0 old (none_on g.D.Disk.view g.D.Disk.failed g.met.D.Disk.lawful old) c.read_ahead.new.self _ refused)
 
 pub returns-in-Ok-clause-done : goal.returns-in-Ok-clause-done
 returns-in-Ok-clause-done g c =

@@ -1,5 +1,6 @@
 use Rattle.std.proofs.Common.{◌≡◌, ◌⊎◌, ◌∙◌, ◌<◌, ◌≤◌, ◌+◌, inl, inr, ⊎_elim, refl, sym, subst, arith}
 use borrow.Author.Tests.{ltb-true, ltb-false}
+use Rattle.engine.proofs.AsBefore.{refused_clean}
 use Rattle.engine.proofs.CleansLemmas.{none_on, one_head, one_on, stopped_on}
 use Rattle.engine.proofs.RowsLemmas.{machine_or_refused}
 use Rattle.engine.proofs.store.Store.clean_all_read.Goals as goal
@@ -26,7 +27,7 @@ returns-in-Err-clause-stopped g c =
     let head = at.invariant.head in (
       at.invariant.few,
       omega (arith, next, limit, head),
-      λ none. refused.store ∙ at.invariant.same none,
+      λ none. (refused_clean g.D.Disk.view g.D.Disk.failed at.self c.clean_by_reading.new.self c.in-Err.fault refused).unchanged ∙ at.invariant.same none,
       stopped_on g.D.Disk.view g.D.Disk.failed g.met.D.Disk.lawful c.args.self.now at.done at.self at.invariant.on c.clean_by_reading.new.self c.in-Err.fault refused,
       machine_or_refused g.D.Disk.view g.D.Disk.failed g.met.D.Disk.lawful at.self c.clean_by_reading.new.self c.in-Err.fault refused,
     )

@@ -1,8 +1,31 @@
-use Rattle.std.proofs.Common.{ℕ, zero-add, inl, inr, subst, ⊎_elim, arith}
+use Rattle.std.proofs.Common.{◌≡◌, true, false, ℕ, zero-add, inl, inr, subst, ⊎_elim, arith}
+use Rattle.std.proofs.lemmas.Result.{err_from_is_err_and}
 use Rattle.engine.specs.Cleans.{AreCleaned, AreStopped}
+use Rattle.engine.specs.Refusal.{is_crew}
 use Rattle.engine.specs.State.{IsSound}
 use Rattle.engine.proofs.CleansLemmas.{none_cleaned, if_ok, if_err, either}
+use Rattle.engine.proofs.RefusedCalls.{admitted_call, bad_crew_call, failed_call}
 use Rattle.engine.proofs.store.Store.clean_many.Goals as goal
+
+pub returns-then-self-clause-admitted : goal.returns-then-self-clause-admitted
+returns-then-self-clause-admitted g c = failed_call (is_crew c.args.crew) c.args.self.now (subst (λ x. x.has_failed ≡ true) c.self.view_is c.if-self.true)
+
+pub returns-in_err-admit_crew-clause-admitted : goal.returns-in_err-admit_crew-clause-admitted
+returns-in_err-admit_crew-clause-admitted g c =
+    let fine : c.args.self.now.has_failed ≡ false = subst (λ x. x.has_failed ≡ false) c.self.view_is c.if-self.false in
+    let why = c.in_err-admit_crew.ensures.err in
+    let p = err_from_is_err_and c.from_residual.result c.from_residual.ensures.1 in
+    rw (p.1, p.2, why.0) (bad_crew_call (is_crew c.args.crew) c.args.self.now fine)
+
+pub returns-then-most-eq0-clause-admitted : goal.returns-then-most-eq0-clause-admitted
+returns-then-most-eq0-clause-admitted g c =
+    let fine : c.args.self.now.has_failed ≡ false = subst (λ x. x.has_failed ≡ false) c.self.view_is c.if-self.false in
+    admitted_call (is_crew c.args.crew) c.args.self.now _ _ fine c.in_ok-admit_crew.ensures.ok
+
+pub returns-clause-admitted : goal.returns-clause-admitted
+returns-clause-admitted g c =
+    let fine : c.args.self.now.has_failed ≡ false = subst (λ x. x.has_failed ≡ false) c.self.view_is c.if-self.false in
+    admitted_call (is_crew c.args.crew) c.args.self.now _ _ fine c.in_ok-admit_crew.ensures.ok
 
 pub returns-then-most-eq0-clause-done : goal.returns-then-most-eq0-clause-done
 returns-then-most-eq0-clause-done g c =

@@ -4,19 +4,20 @@ use Rattle.std.proofs.lemmas.Result.{err_from_is_err_and}
 use Rattle.engine.specs.Cleaning.{IsWhole, most_ahead}
 use Rattle.engine.proofs.store.Store.clean_on.Goals as goal
 
-pub clean_row-requires-clause-some : goal.clean_row-requires-clause-some
-clean_row-requires-clause-some g c =
+pub clean_row-requires : goal.clean_row-requires
+clean_row-requires g c =
     let some = c.requires.some in
     let exact = c.most_ahead.ensures.exact in
     let most = c.min-most.ensures in
-    -- `most_ahead` is at least 1: `max (segments / 8) 1`
-    omega (arith, some, exact, most)
-
-pub clean_row-requires-clause-few : goal.clean_row-requires-clause-few
-clean_row-requires-clause-few g c =
-    let exact = c.most_ahead.ensures.exact in
-    let most = c.min-most.ensures in
-    omega (arith, exact, most)
+    record {
+      ready = record {
+        fine = c.requires.fine;
+        held = c.requires.held;
+        -- `most_ahead` is at least 1: `max (segments / 8) 1`
+        some = omega (arith, some, exact, most);
+        few = omega (arith, exact, most);
+      };
+    }
 
 pub returns-in_err-cleaned-clause-stopped : goal.returns-in_err-cleaned-clause-stopped
 returns-in_err-cleaned-clause-stopped g c =

@@ -6,8 +6,8 @@ use Rattle.engine.proofs.store.Store.clean_row.Goals as goal
 pub returns-in-Ok-clause-done : goal.returns-in-Ok-clause-done
 returns-in-Ok-clause-done g c =
     let (some, few, exact, on) = c.in-Ok.ensures.done in
-    let limit = c.requires.held.limit in
-    let most = c.requires.few in
+    let limit = c.requires.ready.held.limit in
+    let most = c.requires.ready.few in
     (some, few, on, (omega (arith, exact, limit, most), inl (omega (arith, exact, limit, most))))
 
 -- a clean was refused after some others
@@ -15,8 +15,8 @@ pub returns-clause-done : goal.returns-clause-done
 returns-clause-done g c =
     let (n, fault) = c.in-Err.refused in
     let (few, within, same, stopped, refused) = c.in-Err.ensures.stopped in
-    let limit = c.requires.held.limit in
-    let most = c.requires.few in
+    let limit = c.requires.ready.held.limit in
+    let most = c.requires.ready.few in
     row_done c.after_row.result n fault _ c.after_row.ensures
     (λ some other memory. (
       some,
@@ -29,7 +29,7 @@ pub returns-clause-stopped : goal.returns-clause-stopped
 returns-clause-stopped g c =
     let (n, fault) = c.in-Err.refused in
     let (few, within, same, stopped, refused) = c.in-Err.ensures.stopped in
-    let limit = c.requires.held.limit in
-    let most = c.requires.few in
+    let limit = c.requires.ready.held.limit in
+    let most = c.requires.ready.few in
     row_stopped c.after_row.result n fault _ c.after_row.ensures
     (λ why. (n, few, omega (arith, within, limit, most), ⊎_elim (λ none. inl (none, same none)) (λ machine. inr machine) why, stopped, refused))

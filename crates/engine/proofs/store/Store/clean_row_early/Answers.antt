@@ -5,7 +5,7 @@ use Rattle.engine.proofs.store.Store.clean_row_early.Goals as goal
 pub returns-in-Ok-clause-done : goal.returns-in-Ok-clause-done
 returns-in-Ok-clause-done g c =
     let (some, few, on, whole) = c.in-Ok.ensures.done in
-    (few, on, λ _. whole, λ none. absurd (omega (arith, some, none)), tt)
+    (few, on, λ _. (tt, whole), λ none. absurd (omega (arith, some, none)), tt)
 
 pub returns-in-Err-clause-done : goal.returns-in-Err-clause-done
 returns-in-Err-clause-done g c =
@@ -22,4 +22,4 @@ returns-in-Err-clause-done g c =
 pub returns-in-Err-clause-stopped : goal.returns-in-Err-clause-stopped
 returns-in-Err-clause-stopped g c =
     let (n, less, few, why, stopped, refused) = c.in-Err.ensures.stopped in
-    early_err c.early_refusal.result c.in-Err.fault _ c.early_refusal.ensures (λ machine. (machine, n, less, few, stopped))
+    early_err c.early_refusal.result c.in-Err.fault _ c.early_refusal.ensures (λ machine. (machine, n, less, few, λ _. tt, stopped))

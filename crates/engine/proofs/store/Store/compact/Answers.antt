@@ -3,7 +3,7 @@ use Rattle.std.proofs.lemmas.Result.{err_from_is_err_and}
 use Rattle.engine.specs.Refusal.{is_crew}
 use Rattle.engine.specs.State.{store_in}
 use Rattle.engine.proofs.CompactedStores.{compacted_sound, is_compacted}
-use Rattle.engine.proofs.RefusedCalls.{not_both}
+use Rattle.engine.proofs.RefusedCalls.{admitted_call, bad_crew_call, failed_call, not_both}
 use Rattle.engine.proofs.store.Store.compact.Goals as goal
 
 pub returns-then-self : goal.returns-then-self
@@ -15,8 +15,7 @@ returns-then-self g c =
       pages = tt;
       rest = (refl, refl, refl);
       unchanged = refl;
-      failed = λ _. refl;
-      bad_crew = λ fine. absurd (not_both old.has_failed bad fine);
+      admitted = failed_call (is_crew c.args.crew) old bad;
       refused = λ fine. absurd (not_both old.has_failed bad fine);
     }
 
@@ -31,8 +30,7 @@ returns-in_err-admit_crew g c =
       pages = tt;
       rest = (refl, refl, refl);
       unchanged = refl;
-      failed = λ bad. absurd (not_both old.has_failed bad fine);
-      bad_crew = λ _ _. refl;
+      admitted = bad_crew_call (is_crew c.args.crew) old fine;
       refused = λ _ able. absurd (not_both (is_crew c.args.crew) able why.1);
     })
 
@@ -44,8 +42,7 @@ returns-in_err-new g c =
       pages = tt;
       rest = (refl, refl, refl);
       unchanged = refl;
-      failed = λ bad. absurd (not_both c.self.inside.has_failed bad c.if-self.false);
-      bad_crew = λ _ bad. absurd (not_both (is_crew c.args.crew) c.in_ok-admit_crew.ensures.ok bad);
+      admitted = admitted_call (is_crew c.args.crew) _ _ _ c.if-self.false c.in_ok-admit_crew.ensures.ok;
       refused = λ _ _. c.in_err-new.ensures.fault;
     }))
 
@@ -62,3 +59,9 @@ returns-clause-compacted g c =
     let was = store_in c.self.inside.tree c.self.inside.log c.self.inside.version in
     rw (← c.self.view_is) (is_compacted g.D.Disk.view c.self.inside.settings c.self.inside.tree c.in_ok-new.new c.self.inside.log c.self.inside.version c.self.inside.disk c.self.inside.has_failed
     c.in_ok-new.ensures.tree words (c.a_compacted_tree_keeps_the_store_in_step.ensures.holds c.self.inside.settings was c.self.invariant.sound.is))
+
+pub returns-clause-admitted : goal.returns-clause-admitted
+returns-clause-admitted g c =
+    let old = c.args.self.now in
+    let fine : old.has_failed ≡ false = subst (λ x. x.has_failed ≡ false) c.self.view_is c.if-self.false in
+    admitted_call (is_crew c.args.crew) old _ _ fine c.in_ok-admit_crew.ensures.ok

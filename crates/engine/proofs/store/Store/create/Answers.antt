@@ -3,46 +3,43 @@ use Rattle.engine.proofs.HiddenMade.{revealed_back, revealed_bytes, revealed_con
 use Rattle.engine.proofs.HiddenStores.{hiding_leaves}
 use Rattle.engine.proofs.store.Store.create.Goals as goal
 
-pub returns-in-Ok-clause-refused : goal.returns-in-Ok-clause-refused
-returns-in-Ok-clause-refused g c =
-    revealed_refused g.D.Disk.view g.D.Disk.failed c.in-Ok.hidden.settings c.in-Ok.hidden.store c.in-Ok.hidden.has_failed c.args.disk c.in-Ok.hidden.disk.disk c.reveal_store.result
-    (create_refusal c.args.settings (g.D.Disk.view c.args.disk).size) c.create_hidden.result c.in-Ok.hidden c.create_hidden.ensures.refused c.in-Ok.is c.in-Ok.ensures.kept.1 c.reveal_store.ensures.refused
+pub returns-in-Ok : goal.returns-in-Ok
+returns-in-Ok g c =
+    let view = g.D.Disk.view in
+    let failed = g.D.Disk.failed in
+    let s = c.in-Ok.hidden.settings in
+    let store = c.in-Ok.hidden.store in
+    let fails = c.in-Ok.hidden.has_failed in
+    let disk = c.args.disk in
+    let mid = c.in-Ok.hidden.disk.disk in
+    let r = c.reveal_store.result in
+    let created = c.in-Ok.ensures.created in
+    let shown = c.reveal_store.ensures in
+    record {
+      refused = revealed_refused view failed s store fails disk mid r (create_refusal c.args.settings (view disk).size) c.create_hidden.result c.in-Ok.hidden c.create_hidden.ensures.created.refused c.in-Ok.is created.kept.1 shown.refused;
+      back = revealed_back view failed s store fails disk mid r created.kept.0 shown.refused;
+      made = revealed_made view failed s store fails disk mid r c.args.settings created.made.0 created.made.1 created.made.2 shown.same;
+      contents = revealed_contents view failed s store fails disk mid r created.contents shown.same;
+      kept = revealed_kept view failed s store fails disk mid r created.kept.0 created.kept.1 shown.kept;
+      bytes = λ honest. (
+          let made = created.bytes honest in
+          revealed_bytes view failed s store fails disk mid r c.args.settings made.0 shown.same (shown.bytes made.1.honest));
+      crash = λ is_synced. (
+          let made = created.bytes is_synced.honest in
+          revealed_leaves view failed s store fails disk mid r c.args.settings made.0 (created.crash is_synced) (shown.crash made.1));
+      sound = shown.sound;
+    }
 
-pub returns-in-Ok-clause-back : goal.returns-in-Ok-clause-back
-returns-in-Ok-clause-back g c =
-    revealed_back g.D.Disk.view g.D.Disk.failed c.in-Ok.hidden.settings c.in-Ok.hidden.store c.in-Ok.hidden.has_failed c.args.disk c.in-Ok.hidden.disk.disk c.reveal_store.result
-    c.in-Ok.ensures.kept.0 c.reveal_store.ensures.refused
-
-pub returns-in-Ok-clause-made : goal.returns-in-Ok-clause-made
-returns-in-Ok-clause-made g c =
-    revealed_made g.D.Disk.view g.D.Disk.failed c.in-Ok.hidden.settings c.in-Ok.hidden.store c.in-Ok.hidden.has_failed c.args.disk c.in-Ok.hidden.disk.disk c.reveal_store.result
-    c.args.settings c.in-Ok.ensures.made.0 c.in-Ok.ensures.made.1 c.in-Ok.ensures.made.2 c.reveal_store.ensures.same
-
-pub returns-in-Ok-clause-contents : goal.returns-in-Ok-clause-contents
-returns-in-Ok-clause-contents g c =
-    revealed_contents g.D.Disk.view g.D.Disk.failed c.in-Ok.hidden.settings c.in-Ok.hidden.store c.in-Ok.hidden.has_failed c.args.disk c.in-Ok.hidden.disk.disk c.reveal_store.result
-    c.in-Ok.ensures.contents c.reveal_store.ensures.same
-
-pub returns-in-Ok-clause-kept : goal.returns-in-Ok-clause-kept
-returns-in-Ok-clause-kept g c =
-    revealed_kept g.D.Disk.view g.D.Disk.failed c.in-Ok.hidden.settings c.in-Ok.hidden.store c.in-Ok.hidden.has_failed c.args.disk c.in-Ok.hidden.disk.disk c.reveal_store.result
-    c.in-Ok.ensures.kept.0 c.in-Ok.ensures.kept.1 c.reveal_store.ensures.kept
-
-pub returns-in-Ok-clause-bytes : goal.returns-in-Ok-clause-bytes
-returns-in-Ok-clause-bytes g c honest =
-    let made = c.in-Ok.ensures.bytes honest in
-    revealed_bytes g.D.Disk.view g.D.Disk.failed c.in-Ok.hidden.settings c.in-Ok.hidden.store c.in-Ok.hidden.has_failed c.args.disk c.in-Ok.hidden.disk.disk c.reveal_store.result
-    c.args.settings made.0 c.reveal_store.ensures.same (c.reveal_store.ensures.bytes made.1.honest)
-
-pub returns-in-Ok-clause-crash : goal.returns-in-Ok-clause-crash
-returns-in-Ok-clause-crash g c is_synced =
-    let made = c.in-Ok.ensures.bytes is_synced.honest in
-    revealed_leaves g.D.Disk.view g.D.Disk.failed c.in-Ok.hidden.settings c.in-Ok.hidden.store c.in-Ok.hidden.has_failed c.args.disk c.in-Ok.hidden.disk.disk c.reveal_store.result
-    c.args.settings made.0 (c.in-Ok.ensures.crash is_synced) (c.reveal_store.ensures.crash made.1)
-
-pub returns-in-Err-clause-refused : goal.returns-in-Err-clause-refused
-returns-in-Err-clause-refused g c = c.in-Err.ensures.refused
-
-pub returns-in-Err-clause-crash : goal.returns-in-Err-clause-crash
-returns-in-Err-clause-crash g c is_synced =
-    hiding_leaves (g.D.Disk.view c.args.disk) (g.D.Disk.view c.in-Err.refused.1) c.args.settings (c.in-Err.ensures.crash is_synced)
+pub returns-in-Err : goal.returns-in-Err
+returns-in-Err g c =
+    let refused = c.in-Err.ensures.created in
+    record {
+      refused = refused.refused;
+      back = refused.back;
+      made = tt;
+      contents = tt;
+      kept = tt;
+      bytes = λ _. tt;
+      crash = λ is_synced. hiding_leaves (g.D.Disk.view c.args.disk) (g.D.Disk.view c.in-Err.refused.1) c.args.settings (refused.crash is_synced);
+      sound = tt;
+    }

@@ -5,7 +5,7 @@ use Rattle.engine.specs.State.{IsSound}
 use Rattle.engine.proofs.CleaningLemmas.{start_holds, cleaning_holds}
 use Rattle.engine.proofs.CleansLemmas.{if_ok, if_err}
 use Rattle.engine.proofs.EarlyLemmas.{stopped_at_once}
-use Rattle.engine.proofs.RefusedCalls.{not_both}
+use Rattle.engine.proofs.RefusedCalls.{admitted_call, bad_crew_call, failed_call, not_both}
 use Rattle.engine.proofs.store.Store.flush_cleaning.Goals as goal
 
 -- ---- the store has failed
@@ -18,8 +18,7 @@ returns-then-self g c =
     record {
       number = tt;
       flushed = tt;
-      failed = λ _. (refl, refl);
-      bad_crew = λ fine. absurd (not_both old.has_failed bad fine);
+      admitted = failed_call (is_crew c.args.crew) old bad;
       refused = λ fine. absurd (not_both old.has_failed bad fine);
       holds = refl;
       sound = (sound, sound);
@@ -37,8 +36,7 @@ returns-in_err-admit_crew g c =
     rw (p.1, p.2, why.0) (record {
       number = tt;
       flushed = tt;
-      failed = λ bad. absurd (not_both old.has_failed bad fine);
-      bad_crew = λ _ _. (refl, refl);
+      admitted = bad_crew_call (is_crew c.args.crew) old fine;
       refused = λ _ able. absurd (not_both (is_crew c.args.crew) able why.1);
       holds = refl;
       sound = (sound, sound);
@@ -56,8 +54,7 @@ returns-in_err-compact_if_due g c =
     rw (p.1, p.2) (record {
       number = tt;
       flushed = tt;
-      failed = λ bad. absurd (not_both old.has_failed bad fine);
-      bad_crew = λ _ bad. absurd (not_both (is_crew c.args.crew) c.in_ok-admit_crew.ensures.ok bad);
+      admitted = admitted_call (is_crew c.args.crew) old _ _ fine c.in_ok-admit_crew.ensures.ok;
       refused = λ _ _. (old, inl refl, stopped_at_once g.D.Disk.view g.D.Disk.failed g.met.D.Disk.lawful old c.compact_if_due.new.self _ sound err);
       holds = start_holds _ _ (inl err.1);
       sound = (sound, rw err.1 sound);
@@ -75,8 +72,7 @@ returns g c =
     record {
       number = rows.number;
       flushed = if_ok c.flush_in_rows.result _ _ rows.flushed (λ n h. (c.compact_if_due.new.self, start, h));
-      failed = λ bad. absurd (not_both old.has_failed bad fine);
-      bad_crew = λ _ bad. absurd (not_both (is_crew c.args.crew) c.in_ok-admit_crew.ensures.ok bad);
+      admitted = admitted_call (is_crew c.args.crew) old _ _ fine c.in_ok-admit_crew.ensures.ok;
       refused = λ _ _. if_err c.flush_in_rows.result _ _ rows.refused (λ fault h. (c.compact_if_due.new.self, start, h));
       holds = cleaning_holds g.D.Disk.view g.D.Disk.failed _ _ _ c.flush_in_rows.result start rows.flushed rows.refused;
       sound = (sound, rows.sound.1);

@@ -104,7 +104,7 @@ returns-in-Err-reading_for_room-clause-refused g c =
 pub returns-in-Err-reading_for_room-clause-sound : goal.returns-in-Err-reading_for_room-clause-sound
 returns-in-Err-reading_for_room-clause-sound g c =
     let sound : IsSound g.D.Disk.view c.args.self.now = rw (← c.self.view_is) c.self.invariant.sound in
-    (sound, ⊎_elim (λ read. read.0.sound) (λ refused. refused.sound) c.in-Err-reading_for_room.ensures.refused.why)
+    (sound, ⊎_elim (λ read. read.0.sound) (λ refused. refused.1.sound.1) c.in-Err-reading_for_room.ensures.refused.why)
 
 -- ---- a row of cleans
 

@@ -5,7 +5,7 @@ use Rattle.flush_log.specs.Slot.{Slot}
 use Rattle.engine.specs.Refusal.{is_crew}
 use Rattle.engine.specs.State.{store_in}
 use Rattle.engine.proofs.PendingLemmas.{nothing-added, some-left, flush-refused, tail-not-below, flush-adds}
-use Rattle.engine.proofs.RefusedCalls.{not_both}
+use Rattle.engine.proofs.RefusedCalls.{admitted_call, bad_crew_call, failed_call, not_both}
 use Rattle.engine.proofs.store.Store.pending_bytes.Goals as goal
 
 -- ---- the store has failed
@@ -17,8 +17,7 @@ returns-then-self g c =
     record {
       bytes = tt;
       nothing = λ fine. absurd (not_both old.has_failed bad fine);
-      failed = λ _. refl;
-      bad_crew = λ fine. absurd (not_both old.has_failed bad fine);
+      admitted = failed_call (is_crew c.args.crew) old bad;
       refused = λ fine. absurd (not_both old.has_failed bad fine);
     }
 
@@ -33,8 +32,7 @@ returns-in_err-admit_crew g c =
     rw (p.1, p.2, why.0) (record {
       bytes = tt;
       nothing = λ _ able. absurd (not_both (is_crew c.args.crew) able why.1);
-      failed = λ bad. absurd (not_both old.has_failed bad fine);
-      bad_crew = λ _ _. refl;
+      admitted = bad_crew_call (is_crew c.args.crew) old fine;
       refused = λ _ able. absurd (not_both (is_crew c.args.crew) able why.1);
     })
 
@@ -46,8 +44,7 @@ returns-then-is_all_written g c = rw (← c.self.view_is) (
     record {
       bytes = nothing-added c.self.inside.settings st ((c.is_all_written.ensures st.version).0 c.if-is_all_written.true);
       nothing = λ _ _ _. refl;
-      failed = λ bad. absurd (not_both c.self.inside.has_failed bad c.if-self.false);
-      bad_crew = λ _ bad. absurd (not_both (is_crew c.args.crew) c.in_ok-admit_crew.ensures.ok bad);
+      admitted = admitted_call (is_crew c.args.crew) _ _ _ c.if-self.false c.in_ok-admit_crew.ensures.ok;
       refused = λ _ _. tt;
     })
 
@@ -69,8 +66,7 @@ returns-in_err-commit g c = rw (← c.self.view_is) (
     rw (p.1, p.2) (record {
       bytes = tt;
       nothing = λ _ _ none. absurd (due none);
-      failed = λ bad. absurd (not_both c.self.inside.has_failed bad c.if-self.false);
-      bad_crew = λ _ bad. absurd (not_both (is_crew c.args.crew) c.in_ok-admit_crew.ensures.ok bad);
+      admitted = admitted_call (is_crew c.args.crew) _ _ _ c.if-self.false c.in_ok-admit_crew.ensures.ok;
       refused = λ _ _. flush-refused c.self.inside.settings st due _ c.in_err-commit.ensures.err;
     }))
 
@@ -92,7 +88,6 @@ returns g c = rw (← c.self.view_is) (
     record {
       bytes = flush-adds c.self.inside.settings st due _ p _ (omega (arith, up, same));
       nothing = λ _ _ none. absurd (due none);
-      failed = λ bad. absurd (not_both c.self.inside.has_failed bad c.if-self.false);
-      bad_crew = λ _ bad. absurd (not_both (is_crew c.args.crew) c.in_ok-admit_crew.ensures.ok bad);
+      admitted = admitted_call (is_crew c.args.crew) _ _ _ c.if-self.false c.in_ok-admit_crew.ensures.ok;
       refused = λ _ _. tt;
     })

@@ -17,44 +17,40 @@ put_next-requires-clause-begun g c κs within = c.batches.invariant.begun
 pub put_next-requires-clause-fine : goal.put_next-requires-clause-fine
 put_next-requires-clause-fine g c κs within = c.batches.invariant.fine ∙ c.requires.fine
 
-pub returns-in_err-key-clause-rest : goal.returns-in_err-key-clause-rest
-returns-in_err-key-clause-rest g c =
+pub returns-in_err-key : goal.returns-in_err-key
+returns-in_err-key g c =
     let inv = c.batches.invariant in
+    let start = c.args.copy.now in
+    let all = contents c.args.self.now.store.tree in
     let rest = c.put_next.ensures.rest in
-    (rest.0 ∙ inv.settings, rest.1 ∙ inv.disk, rest.2 ∙ inv.fine)
-
-pub returns-in_err-key-clause-refused : goal.returns-in_err-key-clause-refused
-returns-in_err-key-clause-refused g c =
-    let inv = c.batches.invariant in
-    let start = c.args.copy.now in
-    let all = contents c.args.self.now.store.tree in
-    let p = err_from_is_err_and c.from_residual.result c.from_residual.ensures.1 in
     let why = c.in_err-key.ensures.refused inv.on.left inv.on.whole in
-    rw (p.1, p.2) (stopped_put start.settings start.store.tree c.batches.copy.store.tree all inv.on _
-    (subst (λ (s : Settings). IsPutRefused s c.batches.copy.store.tree inv.on.left c.in_err-key.field-0.0) inv.settings why))
+    let p = err_from_is_err_and c.from_residual.result c.from_residual.ensures.1 in
+    rw (p.1, p.2) (record {
+      holds = tt;
+      log = tt;
+      rest = (rest.0 ∙ inv.settings, rest.1 ∙ inv.disk, rest.2 ∙ inv.fine);
+      tree = tt;
+      refused = stopped_put start.settings start.store.tree c.batches.copy.store.tree all inv.on _
+          (subst (λ (s : Settings). IsPutRefused s c.batches.copy.store.tree inv.on.left c.in_err-key.field-0.0) inv.settings why);
+    })
 
-pub returns-in-None-clause-tree : goal.returns-in-None-clause-tree
-returns-in-None-clause-tree g c =
+pub returns-in-None : goal.returns-in-None
+returns-in-None g c =
     let inv = c.batches.invariant in
     let start = c.args.copy.now in
     let all = contents c.args.self.now.store.tree in
+    let rest = c.put_next.ensures.rest in
     let same = at_none _ _ _ (c.in_ok-key.ensures.tree inv.on.left inv.on.whole) c.in-None.is in
     let holds = at_none _ _ _ c.in_ok-key.ensures.further c.in-None.is in
     let there = ap (λ x. x.store.tree) same in
     let (tree, none) = all_put start.settings start.store.tree c.batches.copy.store.tree all inv.on (ap contents (sym there) ∙ holds) in
-    (there ∙ tree, none)
-
-pub returns-in-None-clause-contents : goal.returns-in-None-clause-contents
-returns-in-None-clause-contents g c = at_none _ _ _ c.in_ok-key.ensures.further c.in-None.is
-
-pub returns-in-None-clause-log : goal.returns-in-None-clause-log
-returns-in-None-clause-log g c = c.in_ok-key.ensures.log ∙ ap (λ (st : Store). with_tree st c.put_next.new.copy.store.tree) c.batches.invariant.log
-
-pub returns-in-None-clause-rest : goal.returns-in-None-clause-rest
-returns-in-None-clause-rest g c =
-    let inv = c.batches.invariant in
-    let rest = c.put_next.ensures.rest in
-    (rest.0 ∙ inv.settings, rest.1 ∙ inv.disk, rest.2 ∙ inv.fine)
+    record {
+      holds = holds;
+      log = c.in_ok-key.ensures.log ∙ ap (λ (st : Store). with_tree st c.put_next.new.copy.store.tree) inv.log;
+      rest = (rest.0 ∙ inv.settings, rest.1 ∙ inv.disk, rest.2 ∙ inv.fine);
+      tree = (there ∙ tree, none);
+      refused = tt;
+    }
 
 pub batches-preserved : goal.batches-preserved
 batches-preserved g c =

@@ -1,4 +1,4 @@
-use Rattle.std.proofs.Common.{◌≤◌, sym, subst, arith}
+use Rattle.std.proofs.Common.{◌≤◌, ◌∙◌, sym, subst, arith}
 use Rattle.keys.specs.declared.settings.Settings.{Settings}
 use Rattle.engine.specs.Cleaning.{most_ahead}
 use Rattle.engine.proofs.CleansLemmas.{none_on, refused_on, stopped_on, read_then, read_then_stopped, if_ok, if_err}
@@ -9,14 +9,17 @@ use Rattle.engine.proofs.store.Store.read_and_clean.Goals as goal
 pub read_ahead-requires-clause-some : goal.read_ahead-requires-clause-some
 read_ahead-requires-clause-some g c = λ κs within. some_ahead c.args.most c.args.self.now.settings c.requires.most
 
-pub clean_if_worth-requires-clause-some : goal.clean_if_worth-requires-clause-some
-clean_if_worth-requires-clause-some g c = λ κs within. some_ahead c.args.most c.args.self.now.settings c.requires.most
-
-pub clean_if_worth-requires-clause-few : goal.clean_if_worth-requires-clause-few
-clean_if_worth-requires-clause-few g c = λ κs within. (
+pub clean_if_worth-requires-clause-ready : goal.clean_if_worth-requires-clause-ready
+clean_if_worth-requires-clause-ready g c = λ κs within. (
     let (only, read, below) = c.in-Ok.ensures.read in
     let most = c.requires.most in
-    subst (λ (s : Settings). c.args.most ≤ most_ahead s) (sym only.rest.0) (omega (arith, most)))
+    record {
+      fine = only.counted.0 ∙ c.requires.fine;
+      held = held_read g.D.Disk.view g.D.Disk.failed c.args.self.now c.read_ahead.new.self _ only read below
+          (is_for g.D.Disk.view g.D.Disk.failed c.args.self.now c.args.most _ c.requires.most c.in-Ok.ensures.limit) c.in-Ok.ensures.live;
+      some = some_ahead c.args.most c.args.self.now.settings c.requires.most;
+      few = subst (λ (s : Settings). c.args.most ≤ most_ahead s) (sym only.rest.0) (omega (arith, most));
+    })
 
 pub returns-in-Err-clause-done : goal.returns-in-Err-clause-done
 returns-in-Err-clause-done g c =
@@ -56,7 +59,7 @@ returns-in-Ok-clause-done g c =
     (λ e h. (
       h.0,
       read_then view failed g.met.D.Disk.lawful old mid next e.0 only h.1,
-      λ some. (let (worth, roomy, whole) = h.2 some in (is_early view failed old mid _ only c.requires.due c.in-Ok.ensures.live (worth, roomy), whole_read view failed g.met.D.Disk.lawful old mid only next c.args.most e.0 whole)),
+      λ some. (let (helps, whole) = h.2 some in (is_early view failed old mid _ only c.requires.due c.in-Ok.ensures.live helps, whole_read view failed g.met.D.Disk.lawful old mid only next c.args.most e.0 whole)),
       λ none. calm_read view failed g.met.D.Disk.lawful old mid only (h.3 none),
       h.4,
     ))
@@ -78,8 +81,3 @@ returns-in-Ok-clause-stopped g c =
       λ some. is_early view failed old mid _ only c.requires.due c.in-Ok.ensures.live (h.4 some),
       read_then_stopped view failed g.met.D.Disk.lawful old mid next h.1 fault only h.5,
     ))
-
-pub clean_if_worth-requires-clause-held : goal.clean_if_worth-requires-clause-held
-clean_if_worth-requires-clause-held g c = λ κs within. (
-    let (only, read, below) = c.in-Ok.ensures.read in
-    held_read g.D.Disk.view g.D.Disk.failed c.args.self.now c.read_ahead.new.self _ only read below (is_for g.D.Disk.view g.D.Disk.failed c.args.self.now c.args.most _ c.requires.most c.in-Ok.ensures.limit) c.in-Ok.ensures.live)

@@ -29,7 +29,7 @@ pub invariant_of-result : goal.invariant_of-result
 invariant_of-result g c =
     let (file, read, reported) = c.in-Ok.ensures.read in
     let r = c.in-Ok.found in
-    opened-store g.D.Disk.view r.settings r.tree r.slot c.slot.inside.ends _ _ c.slot.inside.version c.args.disk c.recover.new.disk file read reported.0 c.in-Ok.ensures.kept c.in-Ok.ensures.same
+    opened-store g.D.Disk.view r.settings r.tree r.slot c.slot.inside.ends _ _ c.slot.inside.version c.args.disk c.recover.new.disk file read reported.0 c.in-Ok.ensures.only_reads.kept c.in-Ok.ensures.only_reads.same
     c.what_is_read_is_a_store.ensures c.slot.view_is reported.1
 
 pub returns-in-Ok : goal.returns-in-Ok
@@ -37,7 +37,7 @@ returns-in-Ok g c =
     let view = g.D.Disk.view in
     let (file, read, reported) = c.in-Ok.ensures.read in
     let r = c.in-Ok.found in
-    let ok = c.in-Ok.ensures in
+    let ok = c.in-Ok.ensures.only_reads in
     record {
       bad_crew = λ bad. absurd (not_both (is_crew c.args.crew) c.in_default.ensures.ok bad);
       read = λ _. (
@@ -61,7 +61,7 @@ returns-in-Ok g c =
 pub returns-in-Err-recover : goal.returns-in-Err-recover
 returns-in-Err-recover g c =
     let (file, read, reported) = c.in-Err-recover.ensures.read in
-    let err = c.in-Err-recover.ensures in
+    let err = c.in-Err-recover.ensures.only_reads in
     record {
       bad_crew = λ bad. absurd (not_both (is_crew c.args.crew) c.in_default.ensures.ok bad);
       read = λ _. (file, read, reported);

@@ -2,7 +2,7 @@ use Rattle.std.proofs.Common.{◌≡◌, true, false, refl, inl, sym, subst, ◌
 use Rattle.std.proofs.lemmas.Result.{err_from_is_err_and}
 use Rattle.engine.specs.Refusal.{is_crew}
 use Rattle.engine.specs.Tidied.{IsTidied, IsTidyFault}
-use Rattle.engine.proofs.RefusedCalls.{not_both}
+use Rattle.engine.proofs.RefusedCalls.{admitted_call, bad_crew_call, failed_call, not_both}
 use Rattle.engine.proofs.TidyLemmas.{tidied_further, untouched}
 use Rattle.engine.proofs.store.Store.tidy.Goals as goal
 
@@ -16,8 +16,7 @@ returns-then-self g c =
       tidied = untouched _ _ _ refl;
       pages = tt;
       rest = (refl, refl, refl);
-      failed = λ _. (refl, refl);
-      bad_crew = λ fine. absurd (not_both old.has_failed bad fine);
+      admitted = failed_call (is_crew c.args.crew) old bad;
       refused = λ fine. absurd (not_both old.has_failed bad fine);
     }
 
@@ -33,8 +32,7 @@ returns-in_err-admit_crew g c =
       tidied = untouched _ _ _ refl;
       pages = tt;
       rest = (refl, refl, refl);
-      failed = λ bad. absurd (not_both old.has_failed bad fine);
-      bad_crew = λ _ _. (refl, refl);
+      admitted = bad_crew_call (is_crew c.args.crew) old fine;
       refused = λ _ able. absurd (not_both (is_crew c.args.crew) able why.1);
     })
 
@@ -49,8 +47,7 @@ returns-in_err-thin g c =
       tidied = untouched _ _ _ refl;
       pages = tt;
       rest = (refl, refl, refl);
-      failed = λ bad. absurd (not_both old.has_failed bad fine);
-      bad_crew = λ _ bad. absurd (not_both (is_crew c.args.crew) c.in_ok-admit_crew.ensures.ok bad);
+      admitted = admitted_call (is_crew c.args.crew) old _ _ fine c.in_ok-admit_crew.ensures.ok;
       refused = λ _ _. inl refl;
     })
 
@@ -76,8 +73,7 @@ returns-in_err-tidy_once g c =
       tidied = tidied_further old.settings old.store c.loop-round.self.store c.tidy_once.new.self.store inv.tidied more;
       pages = tt;
       rest = (once.rest.0 ∙ inv.settings, once.rest.1 ∙ inv.disk, once.rest.2 ∙ inv.fine ∙ sym fine);
-      failed = λ bad. absurd (not_both old.has_failed bad fine);
-      bad_crew = λ _ bad. absurd (not_both (is_crew c.args.crew) c.in_ok-admit_crew.ensures.ok bad);
+      admitted = admitted_call (is_crew c.args.crew) old _ _ fine c.in_ok-admit_crew.ensures.ok;
       refused = λ _ _. subst (λ s. IsTidyFault s c.in_err-tidy_once.field-0.0) inv.settings c.in_err-tidy_once.ensures.refused;
     })
 

@@ -14,6 +14,9 @@ returns-in_err-puts g c =
     let p = err_from_is_err_and c.from_residual-in_err-puts.result c.from_residual-in_err-puts.ensures.1 in
     rw (p.1, p.2) (record { sound = tt; tree = tt; fault = inl refl })
 
+pub all_puts-requires-clause-readable : goal.all_puts-requires-clause-readable
+all_puts-requires-clause-readable g c = (let proper = c.requires.sound.proper in record { home = c.requires.home; held = proper.held; levels = proper.levels })
+
 pub execute-requires-clause-sound : goal.execute-requires-clause-sound
 execute-requires-clause-sound g c κs within =
     outdated_sound c.args.settings.now c.args.tree.now c.in_ok-new.new c.requires (c.the_first_tree_is_proper_and_empty.ensures.proper c.args.settings.now) c.in_ok-new.ensures
