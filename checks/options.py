@@ -435,9 +435,10 @@ def live_for_ever(programs: Programs, kind: str) -> Outcome:
     return Outcome(None if is_right else f"{flushes} flushes; {ran.describe()}")
 
 
-def keep_queue(programs: Programs, value: int, most: int, seg_size: int) -> Outcome:
-    """A queue of 1,000 pairs, with the log that docs/OPERATING.md advises."""
-    segments = -(-14 * (1_000 + most) * (8 + value + 10) // seg_size) + 1
+def keep_queue(programs: Programs, value: int, most: int, seg_size: int, factor: int) -> Outcome:
+    """A queue of 1,000 pairs, with the log that docs/OPERATING.md advises (its factor is 14), or with a log of half that size, where a compacted tree
+    fits only after cleans."""
+    segments = -(-factor * (1_000 + most) * (8 + value + 10) // seg_size) + 1
     words: Command = [programs.store, "--fan=64", "--chain=4", f"--seg-size={seg_size}", f"--segments={segments}", "--clean-when-full"]
     lines = [b"put q%07d %s\n" % (number, b"v" * value) for number in range(1_000)]
     for first in range(0, 20_000, most):
@@ -472,6 +473,7 @@ def cases(programs: Programs) -> list[Case]:
         Case("cleans before the log is full", clean_before_full, (programs,)),
         Case("finds at once that no cleans make room", full_at_once, (programs,)),
         Case("makes room for a queue that has filled its log", bloated_and_full, (programs,)),
-        *(Case(f"keeps a queue with {row[0]} bytes a value, {row[1]} pairs a batch", keep_queue, (programs, *row)) for row in QUEUES),
+        *(Case(f"keeps a queue with {row[0]} bytes a value, {row[1]} pairs a batch", keep_queue, (programs, *row, 14)) for row in QUEUES),
+        *(Case(f"keeps a queue in half the log, {row[0]} bytes a value, {row[1]} pairs a batch", keep_queue, (programs, *row, 7)) for row in QUEUES),
         *(Case(f"keeps a queue with {kind}", live_for_ever, (programs, kind)) for kind in ("--fan=64 --chain=16", "--fan=16 --chain=4", "--fan=64 --chain=4")),
     ]

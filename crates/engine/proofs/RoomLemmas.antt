@@ -98,6 +98,10 @@ bloated-by s t n most pages height whole few bloats counted high =
 pub of_some : {X : Type 0} (o : Option X) (x : X) (P : X → Type 0) → o ≡ Some x → IfSome o P → P x
 of_some {X} o x P is h = subst (λ (q : Option X). IfSome q P) is h
 
+pub if_same : {X : Type 0} (o : Option X) (x : X) (P : X → Type 0) → IfSome o (λ y. y ≡ x) → P x → IfSome o P
+if_same (Some y) x P same p = subst P (sym same) p
+if_same None x P same p = tt
+
 pub two-thirds-by : (s : Settings) (st : Store) (used triple : ℕ) → first_bad_field s ≡ None → used ≡ segments_in_use s st → triple ≡ min (used * 3) (2 ^ 64 - 1) → nat_le (2 * s.segments) triple ≡ is_two_thirds_full s st
 two-thirds-by s st used triple good is thrice =
     let few = (are_sized s good).most_count in

@@ -24,6 +24,7 @@ use crate::refusal::admit_crew;
 use crate::store::Store;
 use crate::store::copy::puts_of;
 use crate::store::flush::plan;
+use crate::store::room::{is_full, most_live};
 use crate::store::tidy::count_pages;
 use climb_plan::laws::{
     the_log_states_stay_true, the_plan_holds_the_map_after_the_commands,
@@ -244,19 +245,52 @@ fn no_compacted(fault: Fault) -> Result<Option<Tree<Global>>, Fault>
 }
 
 impl<D: Disk> Store<D> {
-    // Whether the tree has more pages than its pairs account for. Returns false for a tree whose pairs alone would fill
-    // the free segments.
-    fn is_bloated(&self) -> bool
+    // Whether the tree has more pages than its pairs account for. Returns false for a tree whose pairs have more than
+    // `room` bytes.
+    fn is_bloated(&self, room: u64) -> bool
         ensures { IsTrue result → IsTrue (is_bloated self.now.settings self.now.store.tree) }
     {
         let pages = count_pages(&self.tree);
         let most = most_pairs(pages, self.tree.height(), self.settings.fan);
-        let free = self.segments() - self.segments_in_use();
-        let room = free * u64::from(self.settings.seg_size);
         are_few(Rows::with_prefix(self.alloc, &self.tree, b""), most, room)
     }
 
-    // The compacted tree, if its flush finds room without a clean.
+    // Whether to try to compact a bloated tree: if its pairs alone do not fill the free segments, or if the next flush
+    // needs cleans, which may make room for the pairs. Such a flush reads the whole log, so a compaction that fails does
+    // not make it much slower.
+    fn may_compact_now(&self, rt: &(impl Threads + Sync), crew: Crew) -> Result<bool, Fault>
+        ensures { IfErr result (λ fault. fault ≡ NoMemory) }
+    {
+        let free = self.segments() - self.segments_in_use();
+        if self.is_bloated(free * u64::from(self.settings.seg_size)) {
+            return Ok(true);
+        }
+        if !self.may_need_cleans(rt, crew)? {
+            return Ok(false);
+        }
+        let pages = self.page_bytes(rt, crew)?;
+        Ok(self.is_bloated(self.room_beside(pages)))
+    }
+
+    // The compacted tree whose flush was refused with this fault, if cleans can make room for the flush.
+    fn compacted_after_cleans(
+        &self,
+        rt: &(impl Threads + Sync),
+        crew: Crew,
+        new: Tree<Global>,
+        refused: Fault,
+    ) -> Result<Option<Tree<Global>>, Fault>
+        requires sound { IsSoundInMemory self.now.settings new }
+        ensures same { IfOk result (λ o. IfSome o (λ tree. tree ≡ new)) }
+        ensures err { IfErr result (λ fault. fault ≡ NoMemory) }
+    {
+        if is_full(refused)? && self.can_make_room(rt, crew, &new)? {
+            return Ok(Some(new));
+        }
+        Ok(None)
+    }
+
+    // The compacted tree, if its flush finds room now or after cleans.
     fn compacted_that_fits(
         &self,
         rt: &(impl Threads + Sync),
@@ -269,6 +303,9 @@ impl<D: Disk> Store<D> {
     {
         // Only for the proof.
         a_compacted_tree_keeps_the_store_in_step();
+        if !self.may_compact_now(rt, crew)? {
+            return Ok(None);
+        }
         let new = match compacted_tree(rt, crew, self.alloc, &self.settings, &self.tree) {
             Ok(new) => new,
             Err(fault) => return no_compacted(fault),
@@ -280,7 +317,7 @@ impl<D: Disk> Store<D> {
         let text = CommitKind::Flush(self.version);
         match plan(rt, crew, self.alloc, &self.settings, &new, self.log, text) {
             Ok(_planned) => Ok(Some(new)),
-            Err(fault) => no_compacted(fault),
+            Err(fault) => self.compacted_after_cleans(rt, crew, new, fault),
         }
     }
 
@@ -296,15 +333,17 @@ impl<D: Disk> Store<D> {
     }
 
     // Returns whether at least two thirds of the log are in use and the tree is bloated. Checks only when
-    // `is_time_to_count` says so.
+    // `is_time_to_count` says so. Returns false if the log has no room for the pairs twice, because a compaction writes
+    // them while their old frames are live.
     fn may_be_compacted(&self) -> bool
         ensures { IsTrue result → IsTrue (is_two_thirds_full self.now.settings self.now.store)
             × IsTrue (is_bloated self.now.settings self.now.store.tree) }
     {
-        self.is_two_thirds_full() && self.is_time_to_count() && self.is_bloated()
+        let room = most_live(&self.settings) / 2;
+        self.is_two_thirds_full() && self.is_time_to_count() && self.is_bloated(room)
     }
 
-    // Compacts the tree if its flush finds room without a clean.
+    // Compacts the tree if its flush finds room now or after cleans.
     fn compact_if_it_fits(&mut self, rt: &(impl Threads + Sync), crew: Crew) -> Result<(), Fault>
         ensures compacted { OnOk result ((self.new ≡ self.old)
             ⊎ IsCompacted self.old.settings self.old.store self.new.store) }
@@ -324,9 +363,9 @@ impl<D: Disk> Store<D> {
     }
 
     /// Compacts the tree, as `compact` does, if at least two thirds of the log's segments are in use, the tree has more
-    /// pages than its pairs account for, and the flush of the compacted tree fits into the free segments. Else nothing
-    /// changes. A tree has more pages than its pairs account for if it has more than `4 * pairs / fan + 4 * height`.
-    /// The store must not have failed, and the crew must be in range.
+    /// pages than its pairs account for, and the flush of the compacted tree fits into the free segments, or is likely
+    /// to fit after cleans. Else nothing changes. A tree has more pages than its pairs account for if it has more than
+    /// `4 * pairs / fan + 4 * height`. The store must not have failed, and the crew must be in range.
     ///
     /// Fails only with `Fault::NoMemory`. Then nothing changes.
     ///

@@ -4,6 +4,7 @@ use Rattle.flush_log.specs.FlushText.{flush_frames}
 use Rattle.engine.proofs.CleansLemmas.{if_ok}
 use Rattle.engine.proofs.CompactedStores.{compacted_sound}
 use Rattle.engine.proofs.PendingLemmas.{some-left}
+use Rattle.engine.proofs.RoomLemmas.{if_same}
 use Rattle.engine.proofs.store.Store.compacted_that_fits.Goals as goal
 
 -- ---- its flush is refused, or has nothing to write
@@ -38,7 +39,9 @@ returns-in-Ok-plan g c =
     rw (← c.self.view_is) (record { fits = (c.in-Ok.ensures.sound, c.in-Ok.ensures.tree, words); err = tt })
 
 pub returns-in-Err-plan : goal.returns-in-Err-plan
-returns-in-Err-plan g c = record {
-  fits = if_ok c.no_compacted-in-Err-plan.result _ _ c.no_compacted-in-Err-plan.ensures.none (λ o none. rw none tt);
-  err = c.no_compacted-in-Err-plan.ensures.err;
-}
+returns-in-Err-plan g c =
+    let words : c.in-Ok.new.root < 2 ^ 64 = search rules in
+    rw (← c.self.view_is) (record {
+      fits = if_ok c.compacted_after_cleans.result _ _ c.compacted_after_cleans.ensures.same (λ o same. if_same o c.in-Ok.new _ same (c.in-Ok.ensures.sound, c.in-Ok.ensures.tree, words));
+      err = c.compacted_after_cleans.ensures.err;
+    })
