@@ -140,7 +140,7 @@ def functions_of(lines: list[str], module: str, modules: dict[str, str]) -> Iter
     holders: dict[str, str | None] = {"": module, "    ": None}
     for at, line in enumerate(lines):
         if BLOCK.match(line):
-            kind = IMPL.fullmatch(line)
+            kind = IMPL.fullmatch(line if line.endswith("{") else f"{line} {{")  # a clause `where` may follow
             holders["    "] = f"{modules[kind[1]]}{kind[1]}::" if kind and kind[1] in modules else None
         found = FUNCTION.match(line)
         if found and (holder := holders[found[1]]) is not None and not lines[at - 1].lstrip().startswith("#[cycle"):

@@ -11,7 +11,6 @@ use Rattle.clap.specs.declared.error.kind.ErrorKind.TheVariants.{DisplayHelp, Ou
 use Rattle.crew.specs.Crew.{is_crew}
 use Rattle.crew.specs.declared.limits.Crew.{Crew}
 use Rattle.keys.specs.Bytes.{Bytes, Pairs}
-use Rattle.keys.specs.Lists.{flat}
 use Rattle.keys.specs.Limits.{first_bad_field}
 use Rattle.keys.specs.declared.fault.Fault.{Fault}
 use Rattle.keys.specs.declared.fault.Fault.TheVariants.{BadCrew, BadSettings, NoMemory}
@@ -28,10 +27,11 @@ use Rattle.bwsh.specs.declared.session.SessionError.{SessionError}
 use Rattle.bwsh.specs.declared.session.SessionError.TheVariants.{Words, Bad, Device}
 use Rattle.bwsh.specs.declared.session.SessionError.TheVariants as errors
 use Rattle.bwsh.specs.BatchFile.{AreRead, IsReadError, first_bad, orders_in, parse_text}
-use Rattle.bwsh.specs.Options.{Given, Request, AsksFor, AsksForText, AsksToStream, AreRefused, IsRightKind, copy_of, is_refusal, request_by}
+use Rattle.bwsh.specs.Ends.{HasBegun, HasBegunOn, IsAllDone, IsBad, IsDoneOn}
+use Rattle.bwsh.specs.Options.{Given, Request, AsksFor, AsksForText, AreRefused, IsRightKind, copy_of, is_refusal, request_by}
 use Rattle.bwsh.specs.Options.Asked.{options}
-use Rattle.bwsh.specs.Session.{Answers, AreLeft, AreReadOf, EndsBy, IsCopyMade, IsEndAfter, IsForWords, IsShown, IsStart, IsStartBy, IsUncopied, IsUnopened, Prints, PrintsOneText, Reads, Runs, RunsAll, RunsFrom, RunsOn, RunsRead, RunsRequest, Start, answered, end_from, found_start, lines_from, map_kept, map_kept_from, new_start, orders_end, session_orders, start_for_copy, start_unless_bad, status_of_end, stopped_by, first_refusal, untidied, version_text}
-use Rattle.bwsh.proofs.CopiedLemmas.{End, IsFront, IsLeft, OnOk-flushed, Prints-done, Prints-none, Prints-right, PrintsCopied-begun, PrintsCopied-early, PrintsCopied-front, PrintsCopied-left, PrintsCopied-made, PrintsCopied-other, PrintsCopied-plain}
+use Rattle.bwsh.specs.Session.{Answers, AreLeft, AreReadOf, EndsBy, IsEndAfter, IsForWords, IsStart, IsStartBy, IsUncopied, IsUnopened, Prints, PrintsOneText, Reads, Runs, RunsAll, RunsFrom, RunsOn, RunsRead, RunsRequest, Start, answered, end_from, found_start, lines_from, map_kept, map_kept_from, new_start, orders_end, session_orders, start_for_copy, start_unless_bad, status_of_end, stopped_by, first_refusal, untidied, version_text}
+use Rattle.bwsh.proofs.CopiedLemmas.{End, IsLeft, OnOk-flushed, Prints-done, Prints-none, Prints-right, PrintsCopied-begun, PrintsCopied-early, PrintsCopied-front, PrintsCopied-left, PrintsCopied-made, PrintsCopied-other, PrintsCopied-plain}
 use Rattle.bwsh.proofs.FirstLemmas.{RunsOn-cut}
 use Rattle.bwsh.proofs.LoopLemmas.{some_read}
 use Rattle.bwsh.proofs.Prints.{Prints-flushed}
@@ -401,22 +401,6 @@ no_end on (Err fault) shown orders early other e = other fault (let injective : 
 no_end true (Ok p) shown orders early other e = cc
 no_end false (Ok p) shown orders early other e = no_stop (first_refusal p.0 p.1.0 shown orders) early other e
 
--- all that the lines order is printed, from a right start that has a store
-abbrev IsDoneOn : Request → Option Bytes → Option Bytes → Bytes → Type 0
-IsDoneOn request old new text =
-    (parsed : List Line) × AreRead (parse_text request.mode.stream text) parsed × (request.mode.stream ≡ false → first_bad 1 (parse_text false text) ≡ None)
-    × ((start : Start) × IsStart request start × IsOk start × (shown : Reads) × IsShown request start shown (session_orders request parsed)
-    × (end_from request.mode.stream start shown (session_orders request parsed) ≡ Ok tt)
-    × Appends old new (flat (lines_from request.mode.stream start shown (session_orders request parsed)))
-    × IfSome (copy_of request) (λ settings. IsCopyMade settings (map_kept_from start shown (session_orders request parsed))))
-
--- a beginning of it is
-abbrev HasBegunOn : Request → Option Bytes → Option Bytes → Bytes → Type 0
-HasBegunOn request old new text =
-    (parsed : List Line) × AreRead (parse_text request.mode.stream text) parsed
-    × ((start : Start) × IsStart request start × (shown : Reads) × IsShown request start shown (session_orders request parsed)
-    × IsFront request.mode.stream old new (lines_from request.mode.stream start shown (session_orders request parsed)))
-
 module _ (request : Request) (known old new : Option Bytes) where
   -- what was read of the known text
   by_known : (text : Bytes) (parsed : List Line) (P : Bytes → Type 0) → IfSome known (λ bytes. text ≡ bytes) → AreReadOf request.mode.stream known text parsed
@@ -475,19 +459,6 @@ module _ (request : Request) (known old new : Option Bytes) where
       inr (by_known text parsed (HasBegunOn request old new) is_known read (λ bytes same got. (parsed, got, (start, is, shown, is_shown, begun))))
 
 -- ---- what follows of any session
-
--- the words ask for a text, or tell what all that the text orders is printed for
-abbrev IsAllDone : List Bytes → Option Bytes → Option Bytes → Option Bytes → Type 0
-IsAllDone words known old new = AsksForText words ⊎ ((request : Request) × AsksFor words request × IfSome known (IsDoneOn request old new))
-
--- the words ask for a text, or nothing is printed, or they tell what a beginning of all that the text orders is printed for
-abbrev HasBegun : List Bytes → Option Bytes → Option Bytes → Option Bytes → Type 0
-HasBegun words known old new =
-    AsksForText words ⊎ Appends old new [] ⊎ ((request : Request) × AsksFor words request × IfSome known (HasBegunOn request old new))
-
--- a line is bad; nothing is printed then, and the words ask for no stream
-abbrev IsBad : List Bytes → Option Bytes → Option Bytes → Option Bytes → Type 0
-IsBad words known old new = (AsksToStream words → ⊥) × Appends old new [] × IfSome known (λ text. first_bad 1 (parse_text false text) ≢ None)
 
 -- options of the same words are the same
 options_same : (given others : Given) → options given ≡ options others → given ≡ others

@@ -65,15 +65,16 @@ module _ (settings : Settings) (file : List ℕ) where
         rw (good, no) refl
 
     -- it is created on a disk that is as honest as before
-    pub Opens-made : {D : Type 0} (view : D → View) (x : State D) (old : View) → x.settings ≡ settings → x.store ≡ first_store → (view x.disk).is_honest ≡ old.is_honest
+    pub Opens-made : {D : Type 0} (view : D → View) (x : State D) (old : View) → x.settings ≡ settings → x.store ≡ first_store → x.has_failed ≡ false → (view x.disk).is_honest ≡ old.is_honest
         → (IsTrue old.is_honest → old.seen ≡ file) → (IsTrue old.is_honest → (after_create settings old.seen ≡ Ok (x.store, (view x.disk).seen)) × IsSynced (view x.disk))
         → disk_size settings ≤ old.size → (IsTrue old.is_honest → length old.seen ≡ old.size) → Opens view (new_start settings file) (Ok x)
-    Opens-made view x old e_settings e_store honest_is seen_is made room whole = (
+    Opens-made view x old e_settings e_store fine honest_is seen_is made room whole = (
       disk_of_new settings file,
       rw (e_settings, e_store) is_new,
       λ honest.
           let h : IsTrue old.is_honest = subst IsTrue honest_is honest in
           bytes_by old.seen x.store (view x.disk).seen (seen_is h) (rw (whole h) room) (made h).0,
+      fine,
     ) where
       bytes_by : (seen : List ℕ) (st : Store) (now : List ℕ) → seen ≡ file → disk_size settings ≤ length seen → after_create settings seen ≡ Ok (st, now) → now ≡ disk_of_new settings file
       bytes_by seen st now same fits e =
@@ -104,10 +105,10 @@ IsCopyEnd-refused settings m size old new f early Other good room refused ending
 -- ---- the store of a file
 
 -- it was opened on a disk whose reads give the same as before
-pub Opens-found : {D : Type 0} (view : D → View) (file : List ℕ) (old : View) (x : State D) → store_of_disk file ≡ Ok (x.settings, x.store) → Kept old (view x.disk)
+pub Opens-found : {D : Type 0} (view : D → View) (file : List ℕ) (old : View) (x : State D) → store_of_disk file ≡ Ok (x.settings, x.store) → x.has_failed ≡ false → Kept old (view x.disk)
     → (IsTrue old.is_honest → file ≡ old.seen) → (IsTrue old.is_honest → (view x.disk).seen ≡ old.seen) → Opens view (found_start file) (Ok x)
-Opens-found view file old x e kept read seen =
-    (file, ap (start_by file) e, λ honest. let h : IsTrue old.is_honest = subst IsTrue kept.honest honest in seen h ∙ sym (read h))
+Opens-found view file old x e fine kept read seen =
+    (file, ap (start_by file) e, λ honest. let h : IsTrue old.is_honest = subst IsTrue kept.honest honest in seen h ∙ sym (read h), fine)
 
 pub IsUnopened-found : (file : List ℕ) (old new : ℕ) (f : Fault) (early : SessionError) → (store_of_disk file ≡ Err f) ⊎ IsLate old new f → IsEndingOf f early → IsUnopened (found_start file) early
 IsUnopened-found file old new f early (inl own) ending = right (found_start file) f early (ap (start_by file) own) ending

@@ -1,5 +1,7 @@
 pub mod BatchFile
 pub mod CommandLine
+pub mod Ends
+pub mod Laws
 pub mod Line
 pub mod Number
 pub mod Options

@@ -774,10 +774,12 @@ RunsRead request known old new end =
 abbrev pub IsUnopened : Start → SessionError → Type 0
 IsUnopened start early = ((fault : Fault) × (start ≡ Err fault) × (early ≡ errors.Fault fault)) ⊎ (early ≡ errors.Fault NoMemory) ⊎ (early ≡ Device)
 
--- opening a store for a session with this start gives its settings, its store and, on an honest disk, its bytes; or the reason why there is none
+-- opening a store for a session with this start gives its settings, its store and, on an honest disk, its bytes, and the store has not failed; or it
+-- gives the reason why there is none
 abbrev pub Opens : {D : Type 0} → (D → View) → Start → Result (State D) SessionError → Type 0
 Opens view start (Ok x) =
     (file : Bytes) × (start ≡ Ok (x.settings, (x.store, file))) × (IsTrue (view x.disk).is_honest → (view x.disk).seen ≡ file)
+    × (x.has_failed ≡ false)
 Opens view start (Err early) = IsUnopened start early
 
 -- the disk of the store that was opened, if one was, is honest

@@ -1,12 +1,14 @@
 //! What all parts of a session share.
-ghost use Rattle.std.specs.Prelude.{IsTrue, ◌≡◌, false, IfOk, OnErr};
+ghost use Rattle.std.specs.Prelude.{IsTrue, ◌≡◌, false, Ok, IfOk, IsOkUnless, OnErr};
 ghost use Rattle.crew.specs.Crew.{is_crew};
 
-use crate::notes::Notes;
+use crate::notes::{Notes, Source};
 use crate::options::{Mode, Options};
 use crate::progress::Observer;
+use crate::session::{Result, SessionError};
 use engine::{BadCrew, Crew};
 use std::alloc::Global;
+use std::io;
 
 /// The arguments of each call of the store, and the mode of the session. The crew is in range.
 #[derive(Drop)]
@@ -50,5 +52,19 @@ impl<'a, R, P: Observer> Session<'a, R, P> {
             notes,
             report,
         })
+    }
+
+    /// Records the reason if a call on this file failed.
+    pub fn check_call<T: Drop>(&self, file: Source, done: io::Result<T>) -> Result<T>
+        ensures ok { IfOk result (λ value. done ≡ Ok value) }
+        ensures device { IsOkUnless result SessionError.Device }
+    {
+        match done {
+            Ok(value) => Ok(value),
+            Err(reason) => {
+                self.notes.record_failure(file, Some(reason));
+                Err(SessionError::Device)
+            }
+        }
     }
 }

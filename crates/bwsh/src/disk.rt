@@ -3,7 +3,7 @@
 ghost use Rattle.std.specs.Prelude.{◌≡◌};
 ghost use Rattle.bwsh.specs.StoreDisk.{view_of, failed_of, lawful_of};
 
-use crate::progress::Observer;
+use crate::progress::{Event, Observer};
 use engine::{Disk, DiskFault, FileDisk, LockFile, MemDisk};
 use std::alloc::Global;
 use std::fs::{File, OpenFile};
@@ -64,7 +64,7 @@ impl<'a, M, F, P: Observer> ReportingDisk<'a, M, F, P> {
     // Reports a call at offset `at`, unless it is for the header.
     fn count(&self, at: u64) {
         if at >= SEGMENTS_BEGIN {
-            self.report.segment_done();
+            self.report.observe(Event::SegmentDone);
         }
     }
 }

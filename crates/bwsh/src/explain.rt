@@ -92,15 +92,18 @@ fn explain_call(
     format!(in alloc; "{name}: {reason}.{}{}\n", Sentence(advice), Sentence(done))
 }
 
-// Explains that a batch was refused because its command at `place` has `what`: too long a key or
-// value.
-fn explain_command(
-    alloc: Global,
-    lines: &OrderLines,
-    place: usize,
-    what: &str,
-) -> Result<String, AllocError> {
+fn explain_order(alloc: Global, lines: &OrderLines, fault: &Fault) -> Result<String, AllocError> {
     let end = lines.end;
+    let (place, what) = match fault {
+        Fault::KeyTooLong(place) => (*place, "a key that is longer than max-key"),
+        Fault::ValueTooLong(place) => (*place, "a value that is longer than max-value"),
+        Fault::BatchTooLong => {
+            return format!(in alloc;
+                "The batch up to line {end} was not run. It has more than 65535 commands. Divide it by lines go.\n"
+            );
+        }
+        _ => return format!(in alloc; "line {end}: {}\n", order_rule(fault)),
+    };
     match lines.line_of_command(place) {
         Some(line) => format!(in alloc;
             "The batch that line {end} ended was not run. The command in line {line} has {what} of this store.\n"
@@ -108,23 +111,6 @@ fn explain_command(
         None => format!(in alloc;
             "The batch that line {end} ended was not run. One of its commands has {what} of this store.\n"
         ),
-    }
-}
-
-fn explain_order(alloc: Global, lines: &OrderLines, fault: &Fault) -> Result<String, AllocError> {
-    let end = lines.end;
-    match fault {
-        Fault::KeyTooLong(place) => {
-            explain_command(alloc, lines, *place, "a key that is longer than max-key")
-        }
-        Fault::ValueTooLong(place) => {
-            let what = "a value that is longer than max-value";
-            explain_command(alloc, lines, *place, what)
-        }
-        Fault::BatchTooLong => format!(in alloc;
-            "The batch up to line {end} was not run. It has more than 65535 commands. Divide it by lines go.\n"
-        ),
-        _ => format!(in alloc; "line {end}: {}\n", order_rule(fault)),
     }
 }
 
@@ -144,7 +130,7 @@ impl<'a> Notes<'a> {
         error: &SessionError,
         done: &str,
     ) -> Result<String, AllocError> {
-        match (error, self.failure()) {
+        match (error, self.failed.get()) {
             (SessionError::Device, Some((_, reason))) => {
                 explain_call(self.alloc, path, &reason, copy_advice(&reason), done)
             }
@@ -157,7 +143,7 @@ impl<'a> Notes<'a> {
 
     // Only a failure of standard output has no recorded reason.
     fn explain_failure(&self) -> Result<String, AllocError> {
-        match self.failure() {
+        match self.failed.get() {
             None => format!(in self.alloc;
                 "Standard output could not be written. Some answers are missing.\n"
             ),
@@ -186,27 +172,23 @@ impl<'a> Notes<'a> {
         }
     }
 
-    // Explains that a clean has found the log damaged, from which the store was read before.
-    fn explain_damage(&self) -> Result<String, AllocError> {
-        format!(in self.alloc;
-            "{}: The log in the file is damaged. A stream can save the store with .copy.\n",
-            self.store_path()
-        )
-    }
-
     fn explain_fault(&self, fault: &Fault) -> Result<String, AllocError> {
-        if let Some(line) = self.unread_line() {
+        if let Some(line) = self.unread.get() {
             return format!(in self.alloc; "line {line}: There was not enough memory to read it.\n");
         }
         if is_order_fault(fault) {
             if let Ok(lines) = self.lines.try_borrow() {
-                if let Some(lines) = &*lines {
-                    return explain_order(self.alloc, lines, fault);
+                if lines.end > 0 {
+                    return explain_order(self.alloc, &*lines, fault);
                 }
             }
         }
         if self.is_open() {
-            return self.explain_damage();
+            // A clean has found the log damaged, from which the store was read before.
+            return format!(in self.alloc;
+                "{}: The log in the file is damaged. A stream can save the store with .copy.\n",
+                self.store_path()
+            );
         }
         self.explain_start(fault)
     }
@@ -214,11 +196,11 @@ impl<'a> Notes<'a> {
     // Returns why `--copy-to` made no copy, if that is why the session ends.
     fn copy_failure(&self, error: &SessionError) -> Option<Result<String, AllocError>> {
         let path = self.asked.copy_to.as_deref()?;
-        if self.is_copying() {
+        if self.is_copying.get() {
             let done = "All orders are done, but there is no copy.";
             return Some(self.explain_copy(path, error, done));
         }
-        match (error, self.failure()) {
+        match (error, self.failed.get()) {
             (SessionError::Device, Some((Source::Copy, _))) => {
                 Some(self.explain_copy(path, error, "Nothing was run."))
             }
@@ -283,7 +265,7 @@ impl<'a> Notes<'a> {
         };
         let path = str::from_utf8(path).unwrap_or("the copy");
         let text = self.explain_copy(path, error, "There is no copy.");
-        self.forget_failure();
+        self.failed.set(None);
         text.unwrap_or(String::new(self.alloc))
     }
 }

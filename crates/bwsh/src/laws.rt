@@ -30,6 +30,7 @@ ghost use Rattle.bwsh.specs.declared.order.Order.TheVariants.{Batch, BadLine, Lo
 ghost use Rattle.bwsh.specs.declared.session.SessionError.{SessionError};
 ghost use Rattle.bwsh.specs.BatchFile.{IsBatch, IsForBatches, IsInBatch, IsNoClean, IsWithin, asked, batch_lines, commands_of, commands_of_lines, first_bad, is_short, orders_of};
 ghost use Rattle.bwsh.specs.BatchFile.Pending.{begun, skipped};
+ghost use Rattle.bwsh.specs.Laws.{AreAnsweredAlike, PrintsAfter, PrintsOnly};
 ghost use Rattle.bwsh.specs.Options.{Request};
 ghost use Rattle.bwsh.specs.Session.{Answers, AreCleansOf, AreLeft, AreRight, AreSeenAlike, AreUntidied, Batches, IsEndAfter, IsStart, Reads, Seen, Start, Stored, Tidying, accepted, after_order, answer_lines, answered, bad_line, by_batches, cleaned, compacting, fault_line, first_refusal, front_lines, front_of_refused, later, left_by_step, numbers_of, orders_end, printed, refusal_of, step_in, tidied, untidied};
 ghost use Rattle.bwsh.specs.Shown.{help_lines, shown_reply, shown_rows, shown_flushed, shown_cleaned, shown_upgraded, shown_report, shown_numbers, shown_settings, shown_tidied, shown_copied};
@@ -69,61 +70,26 @@ pub fn each_order_prints_its_answer()
         ≡ flat_map shown_reply (replies_to m commands)
         ++ printed settings (after_order settings st (shown 0) (Batch commands)).0 (later shown)
         (map_after_all m commands) rest }
-    ensures flush { (settings : Settings) → (st : Store) → (shown : Reads) → (m : Pairs Bytes) →
-        (rest : List Order) →
-        printed settings st shown m (Flush ∷ rest)
-        ≡ flat (front_lines st (shown 0) Flush)
-        ++ (shown_flushed (after_order settings st (shown 0) Flush).0.sequence
-        ++ printed settings (after_order settings st (shown 0) Flush).0 (later shown) m rest) }
-    ensures clean { (settings : Settings) → (st : Store) → (shown : Reads) → (m : Pairs Bytes) →
-        (rest : List Order) →
-        printed settings st shown m (Clean ∷ rest)
-        ≡ shown_cleaned (after_order settings st (shown 0) Clean).0.head
-        ++ printed settings (after_order settings st (shown 0) Clean).0 (later shown) m rest }
-    ensures upgrade { (settings : Settings) → (st : Store) → (shown : Reads) → (m : Pairs Bytes) →
-        (rest : List Order) →
-        printed settings st shown m (Upgrade ∷ rest)
-        ≡ shown_upgraded (after_order settings st (shown 0) Upgrade).0.sequence
-        ++ printed settings (after_order settings st (shown 0) Upgrade).0 (later shown) m rest }
-    ensures verify { (settings : Settings) → (st : Store) → (shown : Reads) → (m : Pairs Bytes) →
-        (rest : List Order) →
-        printed settings st shown m (Verify ∷ rest)
-        ≡ shown_report (report st.tree) ++ printed settings st (later shown) m rest }
-    ensures numbers { (settings : Settings) → (st : Store) → (shown : Reads) → (m : Pairs Bytes) →
-        (rest : List Order) →
-        printed settings st shown m (Numbers ∷ rest)
-        ≡ shown_numbers (numbers_of settings st) ++ printed settings st (later shown) m rest }
-    ensures bad_line { (settings : Settings) → (st : Store) → (shown : Reads) → (m : Pairs Bytes) →
-        (line : ℕ) → (why : Why) → (rest : List Order) →
-        printed settings st shown m (BadLine line why ∷ rest)
-        ≡ bad_line line why ++ printed settings st (later shown) m rest }
-    ensures stat { (settings : Settings) → (st : Store) → (shown : Reads) → (m : Pairs Bytes) →
-        (rest : List Order) →
-        printed settings st shown m (Stat ∷ rest)
-        ≡ shown_numbers (numbers_of settings st)
-        ++ (shown_settings settings ++ printed settings st (later shown) m rest) }
-    ensures copy { (settings : Settings) → (st : Store) → (shown : Reads) → (m : Pairs Bytes) →
-        (path : Bytes) → (segments : Option ℕ) → (rest : List Order) →
-        printed settings st shown m (Copy path segments ∷ rest)
-        ≡ shown_copied (report st.tree).pairs ++ printed settings st (later shown) m rest }
-    ensures tidy { (settings : Settings) → (st : Store) → (shown : Reads) → (m : Pairs Bytes) →
-        (most : ℕ) → (rest : List Order) →
-        printed settings st shown m (Tidy most ∷ rest)
-        ≡ shown_tidied (counted_pages st.tree
-        - counted_pages (after_order settings st (shown 0) (Tidy most)).0.tree)
-        ++ printed settings (after_order settings st (shown 0) (Tidy most)).0 (later shown) m rest }
-    ensures back { (settings : Settings) → (st : Store) → (shown : Reads) → (m : Pairs Bytes) →
-        (lo : Bytes) → (hi : Option Bytes) → (limit : ℕ) → (rest : List Order) →
-        printed settings st shown m (Back lo hi limit ∷ rest)
-        ≡ shown_rows (rows_back lo hi limit m) ++ printed settings st (later shown) m rest }
-    ensures prefix { (settings : Settings) → (st : Store) → (shown : Reads) → (m : Pairs Bytes) →
-        (bytes : Bytes) → (limit : ℕ) → (rest : List Order) →
-        printed settings st shown m (Prefix bytes limit ∷ rest)
-        ≡ shown_rows (take limit (with_prefix bytes m)) ++ printed settings st (later shown) m rest }
-    ensures help { (settings : Settings) → (st : Store) → (shown : Reads) → (m : Pairs Bytes) →
-        (rest : List Order) →
-        printed settings st shown m (Help ∷ rest)
-        ≡ help_lines ++ printed settings st (later shown) m rest }
+    ensures flush { PrintsAfter Flush (λ st seen now.
+        flat (front_lines st seen Flush) ++ shown_flushed now.sequence) }
+    ensures clean { PrintsAfter Clean (λ st seen now. shown_cleaned now.head) }
+    ensures upgrade { PrintsAfter Upgrade (λ st seen now. shown_upgraded now.sequence) }
+    ensures verify { PrintsOnly Verify (λ settings st m. shown_report (report st.tree)) }
+    ensures numbers { PrintsOnly Numbers (λ settings st m.
+        shown_numbers (numbers_of settings st)) }
+    ensures bad_line { (line : ℕ) → (why : Why) →
+        PrintsOnly (BadLine line why) (λ settings st m. bad_line line why) }
+    ensures stat { PrintsOnly Stat (λ settings st m.
+        shown_numbers (numbers_of settings st) ++ shown_settings settings) }
+    ensures copy { (path : Bytes) → (segments : Option ℕ) → PrintsOnly (Copy path segments)
+        (λ settings st m. shown_copied (report st.tree).pairs) }
+    ensures tidy { (most : ℕ) → PrintsAfter (Tidy most)
+        (λ st seen now. shown_tidied (counted_pages st.tree - counted_pages now.tree)) }
+    ensures back { (lo : Bytes) → (hi : Option Bytes) → (limit : ℕ) →
+        PrintsOnly (Back lo hi limit) (λ settings st m. shown_rows (rows_back lo hi limit m)) }
+    ensures prefix { (bytes : Bytes) → (limit : ℕ) → PrintsOnly (Prefix bytes limit)
+        (λ settings st m. shown_rows (take limit (with_prefix bytes m))) }
+    ensures help { PrintsOnly Help (λ settings st m. help_lines) }
 {}
 
 /// If all orders are batches and none is refused, their output is the replies of an ordered map to
@@ -145,20 +111,9 @@ pub fn the_commands_are_answered_in_order()
 /// by the same cleans in front of flushes, and the same orders fail for the same reasons, such as an
 /// allocation or the file of a copy.
 pub fn the_bytes_of_the_disk_do_not_matter()
-    ensures lines { (settings : Settings) → (st : Store) → (shown other : Reads) →
-        AreSeenAlike shown other →
-        (m : Pairs Bytes) → (orders : List Order) → All IsNoClean orders →
-        answer_lines settings st shown m orders ≡ answer_lines settings st other m orders }
-    ensures answered { (on : Bool) → (settings : Settings) → (st : Store) →
-        (shown other : Reads) → AreSeenAlike shown other →
-        (m : Pairs Bytes) → (orders : List Order) → All IsNoClean orders →
-        answered on settings st shown m orders ≡ answered on settings st other m orders }
-    ensures accepted { (settings : Settings) → (st : Store) → (shown other : Reads) →
+    ensures { (settings : Settings) → (st : Store) → (shown other : Reads) →
         AreSeenAlike shown other → (orders : List Order) → All IsNoClean orders →
-        accepted settings st shown orders ≡ accepted settings st other orders }
-    ensures end { (on : Bool) → (settings : Settings) → (st : Store) → (shown other : Reads) →
-        AreSeenAlike shown other → (orders : List Order) → All IsNoClean orders →
-        orders_end on settings st shown orders ≡ orders_end on settings st other orders }
+        AreAnsweredAlike settings st shown other orders }
 {}
 
 /// If each read of the disk returns what was last written, the store, the initial contents of the
@@ -166,23 +121,10 @@ pub fn the_bytes_of_the_disk_do_not_matter()
 /// itself does not refuse, determine the answers, the accepted orders and how the session ends. Such
 /// reads exist for each store.
 pub fn what_was_left_decides_the_answers()
-    ensures lines { (settings : Settings) → (st : Store) → (file : Bytes) → (shown other : Reads) →
-        AreSeenAlike shown other → (m : Pairs Bytes) → (orders : List Order) →
-        AreLeft settings st file shown orders → AreLeft settings st file other orders →
-        answer_lines settings st shown m orders ≡ answer_lines settings st other m orders }
-    ensures answered { (on : Bool) → (settings : Settings) → (st : Store) → (file : Bytes) →
-        (shown other : Reads) → AreSeenAlike shown other → (m : Pairs Bytes) →
-        (orders : List Order) →
-        AreLeft settings st file shown orders → AreLeft settings st file other orders →
-        answered on settings st shown m orders ≡ answered on settings st other m orders }
-    ensures accepted { (settings : Settings) → (st : Store) → (file : Bytes) →
+    ensures alike { (settings : Settings) → (st : Store) → (file : Bytes) →
         (shown other : Reads) → AreSeenAlike shown other → (orders : List Order) →
         AreLeft settings st file shown orders → AreLeft settings st file other orders →
-        accepted settings st shown orders ≡ accepted settings st other orders }
-    ensures end { (on : Bool) → (settings : Settings) → (st : Store) → (file : Bytes) →
-        (shown other : Reads) → AreSeenAlike shown other → (orders : List Order) →
-        AreLeft settings st file shown orders → AreLeft settings st file other orders →
-        orders_end on settings st shown orders ≡ orders_end on settings st other orders }
+        AreAnsweredAlike settings st shown other orders }
     ensures some { (settings : Settings) → (st : Store) → (file : Bytes) → (orders : List Order) →
         (shown : Reads) × AreUntidied shown × AreLeft settings st file shown orders }
 {}

@@ -22,7 +22,8 @@ pub struct OrderLines {
     commands: Vec<u64>,
     // False after an allocation for `commands` failed.
     is_whole: bool,
-    /// The line that completed the order, or, until then, the last line that was read.
+    /// The line that completed the order, or, until then, the last line that was read; 0 if none
+    /// was.
     pub end: u64,
     // Whether `end` completed the order, so that the next line begins another one.
     is_ended: bool,
@@ -56,14 +57,16 @@ impl OrderLines {
 pub struct Notes<'a> {
     pub alloc: Global,
     pub asked: &'a Options,
-    failed: Cell<Option<(Source, io::Error)>>,
-    /// The lines of the last order, or `None` without `--explain` or before the first line.
-    pub lines: RefCell<Option<OrderLines>>,
-    is_copying: Cell<bool>,
+    /// The last call on a file or a stream that failed, and why.
+    pub failed: Cell<Option<(Source, io::Error)>>,
+    /// The lines of the last order, with `--explain`.
+    pub lines: RefCell<OrderLines>,
+    /// Whether all orders are done, and the copy has begun.
+    pub is_copying: Cell<bool>,
     // The settings of the store, once it is open.
     settings: Cell<Option<Settings>>,
-    // The number of the line that is being read or was lost, or `None` after a line was read.
-    unread: Cell<Option<u64>>,
+    /// The number of the line that is being read or was lost, or `None` after a line was read.
+    pub unread: Cell<Option<u64>>,
 }
 
 impl<'a> Notes<'a> {
@@ -75,7 +78,12 @@ impl<'a> Notes<'a> {
             alloc,
             asked,
             failed: Cell::new(None),
-            lines: RefCell::new(None),
+            lines: RefCell::new(OrderLines {
+                commands: Vec::new(alloc),
+                is_whole: true,
+                end: 0,
+                is_ended: false,
+            }),
             is_copying: Cell::new(false),
             settings: Cell::new(None),
             unread: Cell::new(None),
@@ -86,14 +94,6 @@ impl<'a> Notes<'a> {
         if let Some(reason) = reason {
             self.failed.set(Some((source, reason)));
         }
-    }
-
-    pub fn failure(&self) -> Option<(Source, io::Error)> {
-        self.failed.get()
-    }
-
-    pub fn forget_failure(&self) {
-        self.failed.set(None);
     }
 
     pub fn store_opened(&self, settings: Settings) {
@@ -109,22 +109,8 @@ impl<'a> Notes<'a> {
     /// store has others, and there is no copy that could have them.
     pub fn has_idle_settings(&self) -> bool {
         let asked = self.asked;
-        let is_copied = asked.copy_to.is_some();
-        match self.settings.get() {
-            Some(settings) => {
-                settings != asked.settings && asked.settings != Settings::default() && !is_copied
-            }
-            None => false,
-        }
-    }
-
-    /// Records that all orders are done and the copy begins.
-    pub fn begin_copy(&self) {
-        self.is_copying.set(true);
-    }
-
-    pub fn is_copying(&self) -> bool {
-        self.is_copying.get()
+        let are_asked = asked.settings != Settings::default() && asked.copy_to.is_none();
+        are_asked && matches!(self.settings.get(), Some(settings) if settings != asked.settings)
     }
 
     pub fn begin_line(&self, line: u64) {
@@ -135,11 +121,6 @@ impl<'a> Notes<'a> {
         self.unread.set(None);
     }
 
-    /// Returns the number of the line that could not be read.
-    pub fn unread_line(&self) -> Option<u64> {
-        self.unread.get()
-    }
-
     pub fn record_line(&self, line: u64, parsed: &Line) {
         if matches!(parsed, Line::Lost) {
             return;
@@ -148,18 +129,7 @@ impl<'a> Notes<'a> {
         if !self.asked.mode.explain {
             return;
         }
-        let Ok(mut lines) = self.lines.try_borrow_mut() else {
-            return;
-        };
-        if lines.is_none() {
-            *lines = Some(OrderLines {
-                commands: Vec::new(self.alloc),
-                is_whole: true,
-                end: 0,
-                is_ended: false,
-            });
-        }
-        if let Some(lines) = &mut *lines {
+        if let Ok(mut lines) = self.lines.try_borrow_mut() {
             lines.follow(line, parsed);
         }
     }

@@ -36,10 +36,8 @@ impl Batch {
         ensures ok { OnOk result (self.new ≡ self.old ++ command ∷ []) }
         ensures err { OnErr result (self.new ≡ self.old) }
     {
-        match self.commands.push(command) {
-            Ok(()) => Ok(()),
-            Err(_refused) => Err(AllocError),
-        }
+        self.commands.push(command)?;
+        Ok(())
     }
 
     pub fn as_slice(&self) -> &[Command<Global>]

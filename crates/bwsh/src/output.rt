@@ -4,7 +4,7 @@ ghost use Rattle.std.specs.Bool.{MatchBool};
 ghost use Rattle.std.specs.Io.KnownBytes.{Appends, Keeps};
 ghost use Rattle.bwsh.specs.Output.{IsBegun, Puts};
 
-use crate::session::SessionError;
+use crate::session::{Result, SessionError};
 use std::alloc::Global;
 use std::io::{ErrorKind, Write};
 
@@ -12,7 +12,7 @@ use std::io::{ErrorKind, Write};
 const FULL: usize = 65_536;
 
 // Makes one write call. Returns how many bytes were written, or 0 if the call was interrupted.
-fn write_some<O: Write>(bytes: &[u8], out: &mut O) -> Result<usize, SessionError>
+fn write_some<O: Write>(bytes: &[u8], out: &mut O) -> Result<usize>
     ensures ok { IfOk result (λ taken. (taken ≤ length bytes.now)
         × Appends (O.contents out.old) (O.contents out.new) (take taken bytes.now)) }
     ensures err { OnErr result (Keeps (O.contents out.old) (O.contents out.new)) }
@@ -28,7 +28,7 @@ fn write_some<O: Write>(bytes: &[u8], out: &mut O) -> Result<usize, SessionError
 
 // Writes all bytes. After an error, `out` has a prefix of `bytes`, which `write_all` does not
 // promise.
-pub(crate) fn write_bytes<O: Write>(bytes: &[u8], out: &mut O) -> Result<(), SessionError>
+pub(crate) fn write_bytes<O: Write>(bytes: &[u8], out: &mut O) -> Result<()>
     ensures ok { OnOk result (Appends (O.contents out.old) (O.contents out.new) bytes.now) }
     ensures err { OnErr result (IsBegun (O.contents out.old) (O.contents out.new) bytes.now) }
     ensures device { IsOkUnless result SessionError.Device }
@@ -73,7 +73,7 @@ impl Buffer {
     }
 
     /// Adds these bytes to the text.
-    pub fn put<O: Write>(&mut self, bytes: &[u8], out: &mut O) -> Result<(), SessionError>
+    pub fn put<O: Write>(&mut self, bytes: &[u8], out: &mut O) -> Result<()>
         ensures { Puts O.contents self.old out.old self.new out.new bytes.now result }
     {
         if self.keep(bytes) {
@@ -84,7 +84,7 @@ impl Buffer {
     }
 
     /// Writes the text out.
-    pub fn write<O: Write>(&mut self, out: &mut O) -> Result<(), SessionError>
+    pub fn write<O: Write>(&mut self, out: &mut O) -> Result<()>
         ensures text { OnOk result (self.new.text.items ≡ []) }
         ensures puts { Puts O.contents self.old out.old self.new out.new [] result }
     {
@@ -95,10 +95,7 @@ impl Buffer {
 }
 
 // Flushes `out`. Returns `done`, or `Device` if flushing fails.
-pub(crate) fn flush<O: Write>(
-    done: Result<(), SessionError>,
-    out: &mut O,
-) -> Result<(), SessionError>
+pub(crate) fn flush<O: Write>(done: Result<()>, out: &mut O) -> Result<()>
     ensures bytes { Keeps (O.contents out.old) (O.contents out.new) }
     ensures end { (result ≡ done) ⊎ (result ≡ Err SessionError.Device) }
 {
@@ -110,7 +107,7 @@ pub(crate) fn flush<O: Write>(
 
 // Fails if `out` is closed, which a write of no bytes shows. If `out` were closed, the next file
 // opened could get its descriptor, and the answers. An interrupted call shows that `out` is open.
-pub(crate) fn check_open<O: Write>(out: &mut O) -> Result<(), SessionError>
+pub(crate) fn check_open<O: Write>(out: &mut O) -> Result<()>
     ensures bytes { Appends (O.contents out.old) (O.contents out.new) [] }
     ensures device { IsOkUnless result SessionError.Device }
 {

@@ -2,7 +2,7 @@
 //! explanations of the faults that a stream goes on after.
 use crate::options::Options;
 use crate::output::{check_open, write_bytes};
-use crate::session::SessionError;
+use crate::session::Result;
 use std::cell::RefCell;
 use std::fmt::{InlineText, Write as _};
 use std::io::Write;
@@ -26,26 +26,26 @@ pub enum LongCall {
     Copying,
 }
 
-/// Reports on a session while it runs. Each method is called on the session's own thread.
-pub trait Observer {
+/// Something that happens in a session.
+#[derive(Clone, Copy)]
+pub enum Event<'a> {
     /// A call on the store's file, or on the file of the copy, begins.
-    fn call_begun(&self, _call: LongCall) {}
-
+    CallBegun(LongCall),
+    CallEnded,
     /// A segment was read or written.
-    fn segment_done(&self) {}
+    SegmentDone,
+    /// The line with this number was read.
+    LineRead(u64),
+    OrderDone { is_batch: bool },
+    /// The input is a text, which was read whole and has so many orders.
+    OrdersCounted(u64),
+    /// A fault has this explanation, which is a line.
+    Explained(&'a [u8]),
+}
 
-    fn call_ended(&self) {}
-
-    /// This is the number of the line that was read last.
-    fn line_read(&self, _line: u64) {}
-
-    fn order_done(&self, _is_batch: bool) {}
-
-    /// Records how many orders will be run: the input is a text, which was read whole.
-    fn orders_counted(&self, _orders: u64) {}
-
-    /// Erases the progress line, and writes a line that remains.
-    fn write(&self, _line: &[u8]) {}
+/// Reports on a session while it runs. It is called on the session's own thread.
+pub trait Observer {
+    fn observe(&self, _event: Event<'_>) {}
 }
 
 /// An observer that reports nothing.
@@ -122,38 +122,32 @@ impl<'a, 'e, R: Clock, E: Write> State<'a, 'e, R, E> {
         }
     }
 
-    // Returns the first words about the call, the path of its file, and what is done to segments.
-    fn words(&self, call: LongCall) -> (&'static [u8], &'a str, &'static str) {
-        let (path, text, done): (_, &[u8], _) = match call {
-            LongCall::Opening => (&self.asked.disk, b"opening ", "read"),
-            LongCall::Copying => (&self.asked.copy_to, b"copying to ", "written"),
+    // Shows the call, the path of its file, and how many segments were read or written, if any
+    // were.
+    fn show_call(&mut self, call: LongCall) {
+        let asked = self.asked;
+        let (text, path, done): (&[u8], _, _) = match call {
+            LongCall::Opening => (b"opening ", asked.disk.as_deref(), "read"),
+            LongCall::Copying => (b"copying to ", asked.copy_to.as_deref(), "written"),
         };
-        match path {
-            Some(path) => (text, path, done),
-            None => (text, "", done),
+        let (segments, mut rest) = (self.segments, InlineText::<TEXT>::new());
+        if segments == 0 || write!(rest, ", {segments} segments {done}").is_ok() {
+            let path = path.unwrap_or("");
+            self.show(text, path.as_bytes(), rest.as_str().as_bytes());
         }
     }
 
     fn begin_call(&mut self, call: LongCall) {
         self.call = Some(call);
         self.segments = 0;
-        let (text, path, _) = self.words(call);
-        self.show(text, path.as_bytes(), b"");
-    }
-
-    fn show_segments(&mut self, call: LongCall) {
-        let (text, path, done) = self.words(call);
-        let (segments, mut rest) = (self.segments, InlineText::<TEXT>::new());
-        if write!(rest, ", {segments} segments {done}").is_ok() {
-            self.show(text, path.as_bytes(), rest.as_str().as_bytes());
-        }
+        self.show_call(call);
     }
 
     fn count_segment(&mut self) {
         self.segments = self.segments.saturating_add(1);
         if let Some(call) = self.call {
             if self.is_due() {
-                self.show_segments(call);
+                self.show_call(call);
             }
         }
     }
@@ -173,14 +167,24 @@ impl<'a, 'e, R: Clock, E: Write> State<'a, 'e, R, E> {
             self.show_counts();
         }
     }
+
+    fn follow(&mut self, event: Event<'_>) {
+        match event {
+            Event::CallBegun(call) => self.begin_call(call),
+            Event::CallEnded => self.call = None,
+            Event::SegmentDone => self.count_segment(),
+            Event::LineRead(line) => self.count_line(line),
+            Event::OrderDone { is_batch } => self.count_order(is_batch),
+            Event::OrdersCounted(orders) => self.orders = Some(orders),
+            Event::Explained(line) => {
+                self.erase();
+                let _ = write_bytes(line, self.err);
+            }
+        }
+    }
 }
 
-fn write_in_place<E: Write>(
-    text: &[u8],
-    path: &[u8],
-    rest: &[u8],
-    err: &mut E,
-) -> Result<(), SessionError> {
+fn write_in_place<E: Write>(text: &[u8], path: &[u8], rest: &[u8], err: &mut E) -> Result<()> {
     write_bytes(START, err)?;
     write_bytes(text, err)?;
     write_bytes(path, err)?;
@@ -228,46 +232,9 @@ impl<'a, 'e, R: Clock, E: Write> Reporter<'a, 'e, R, E> {
 }
 
 impl<'a, 'e, R: Clock, E: Write> Observer for Reporter<'a, 'e, R, E> {
-    fn call_begun(&self, call: LongCall) {
+    fn observe(&self, event: Event<'_>) {
         if let Ok(mut state) = self.state.try_borrow_mut() {
-            state.begin_call(call);
-        }
-    }
-
-    fn segment_done(&self) {
-        if let Ok(mut state) = self.state.try_borrow_mut() {
-            state.count_segment();
-        }
-    }
-
-    fn call_ended(&self) {
-        if let Ok(mut state) = self.state.try_borrow_mut() {
-            state.call = None;
-        }
-    }
-
-    fn line_read(&self, line: u64) {
-        if let Ok(mut state) = self.state.try_borrow_mut() {
-            state.count_line(line);
-        }
-    }
-
-    fn order_done(&self, is_batch: bool) {
-        if let Ok(mut state) = self.state.try_borrow_mut() {
-            state.count_order(is_batch);
-        }
-    }
-
-    fn orders_counted(&self, orders: u64) {
-        if let Ok(mut state) = self.state.try_borrow_mut() {
-            state.orders = Some(orders);
-        }
-    }
-
-    fn write(&self, line: &[u8]) {
-        if let Ok(mut state) = self.state.try_borrow_mut() {
-            state.erase();
-            let _ = write_bytes(line, state.err);
+            state.follow(event);
         }
     }
 }

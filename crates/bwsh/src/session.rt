@@ -1,41 +1,37 @@
 //! A session: runs a batch file, or a stream of lines, on the store that the command line names.
-ghost use Rattle.std.specs.Prelude.{List, false, true, IsTrue, ◌≡◌, ◌≢◌, ◌↔◌, ◌⊎◌, [], ◌∷◌, ◌++◌, map, None, Some, IfSome, Result, Ok, Err, IsOk, IfOk, IfErr, OnOk, OnErr, Option};
+ghost use Rattle.std.specs.Prelude.{List, false, true, IsTrue, ◌≡◌, ◌≢◌, ◌↔◌, ◌⊎◌, [], ◌∷◌, ◌++◌, map, None, Some, IfSome, Ok, Err, IfOk, IfErr, OnOk, OnErr, Option};
 ghost use Rattle.std.specs.String.{string_bytes};
 ghost use Rattle.std.specs.IoError.{error_kind};
 ghost use Rattle.std.specs.Io.KnownBytes.{Appends, Keeps};
 ghost use Rattle.clap.specs.Words.{kind_of};
 ghost use Rattle.clap.specs.declared.error.kind.ErrorKind.TheVariants.{DisplayHelp, OutOfMemory};
-ghost use Rattle.keys.specs.Bytes.{Bytes};
-ghost use Rattle.keys.specs.Lists.{flat};
 ghost use Rattle.keys.specs.declared.fault.Fault.TheVariants.{NoMemory};
 ghost use Rattle.keys.specs.declared.fault.Fault.TheVariants as faults;
 ghost use Rattle.bwsh.specs.declared.line.Line.{Line};
 ghost use Rattle.bwsh.specs.declared.order.Order.{Order};
 ghost use Rattle.bwsh.specs.declared.session.SessionError.TheVariants.{Device};
 ghost use Rattle.bwsh.specs.declared.session.SessionError.TheVariants as errors;
-ghost use Rattle.bwsh.specs.BatchFile.{AreRead, first_bad, orders_in, parse_text};
-ghost use Rattle.bwsh.specs.Options.{Request, AsksFor, AsksForReports, AsksForText, AsksToExplain, AsksToStream, AreRefused, copy_of, reports, request_of};
-ghost use Rattle.bwsh.specs.Output.{BeginsWith, IsBegun};
-ghost use Rattle.bwsh.specs.Session.{Answers, EndsBy, EndsReported, IsCopyMade, IsForWords, IsQuiet, IsReportedWith, IsShown, IsStart, OrdersAll, Prints, PrintsOneText, Reads, RunsRead, Start, device_line, end_from, error_text, lines_from, map_kept_from, session_orders, status_of, status_of_end, unread_text, version_text};
+ghost use Rattle.bwsh.specs.BatchFile.{AreRead, orders_in, parse_text};
+ghost use Rattle.bwsh.specs.Ends.{HasBegun, IsAllDone, IsBad};
+ghost use Rattle.bwsh.specs.Options.{AsksForReports, AsksToExplain, AreRefused, reports, request_of};
+ghost use Rattle.bwsh.specs.Output.{IsBegun};
+ghost use Rattle.bwsh.specs.Session.{Answers, EndsBy, EndsReported, IsForWords, IsQuiet, IsReportedWith, OrdersAll, Prints, PrintsOneText, RunsRead, error_text, status_of, status_of_end, unread_text, version_text};
 ghost use Rattle.bwsh.specs.Source.{IsToCome};
 
-use crate::asks::answer;
 use crate::context::Session;
-use crate::copying::{copy_after, prepare_copy};
 use crate::disk::{LastError, StoreFile};
 use crate::line::Why;
 use crate::notes::{Notes, Source};
-use crate::opening::open_store;
 use crate::options::{Options, options};
 use crate::order::Order;
 use crate::output::{check_open, flush, write_bytes};
-use crate::progress::{Observer, Reporter, Silent};
+use crate::progress::{Event, Observer, Reporter, Silent};
 use crate::show::print_error;
 use crate::source as lines;
 use crate::text::check;
-use engine::{BadCrew, Disk, LockFile, Store};
+use engine::{BadCrew, Disk, Store};
 use keys::Fault;
-use std::alloc::{AllocError, AllocFailed, Global};
+use std::alloc::{AllocError, Global};
 use std::io::{BufRead, BufReader, ErrorKind, Read, Write};
 use std::rt::Files;
 use std::thread::Threads;
@@ -45,6 +41,9 @@ use std::{fmt, io};
 const VERSION: &[u8] = b"bwsh 0.1.0\n";
 
 const UNREAD: &[u8] = b"error: a word of the command line is no text\n";
+
+/// The result of a step of a session.
+pub type Result<T, E = SessionError> = std::result::Result<T, E>;
 
 /// Why a session ends early, or why a stream refuses an order. `Display` writes the report of it.
 #[derive(Drop)]
@@ -92,14 +91,6 @@ impl From<AllocError> for SessionError {
     }
 }
 
-impl<T: Drop> From<AllocFailed<T>> for SessionError {
-    ghost from_gives = { λ _ error. error ≡ errors.Fault NoMemory };
-
-    fn from(_refused: AllocFailed<T>) -> SessionError {
-        SessionError::Fault(Fault::NoMemory)
-    }
-}
-
 impl From<Fault> for SessionError {
     ghost from_gives = { λ fault error. error ≡ errors.Fault fault };
 
@@ -116,7 +107,7 @@ impl From<BadCrew> for SessionError {
     }
 }
 
-pub(crate) fn read_fault(error: io::Error) -> SessionError
+pub fn read_fault(error: io::Error) -> SessionError
     ensures memory { (result ≡ SessionError.Fault Fault.NoMemory)
         ↔ (error_kind error ≡ ErrorKind.OutOfMemory) }
     ensures either { (result ≡ SessionError.Fault Fault.NoMemory) ⊎ (result ≡ SessionError.Device) }
@@ -127,8 +118,7 @@ pub(crate) fn read_fault(error: io::Error) -> SessionError
     }
 }
 
-// Reads all of the input.
-fn read_text<I: Read>(notes: &Notes<'_>, input: &mut I) -> Result<Vec<u8>, SessionError>
+fn read_text<I: Read>(notes: &Notes<'_>, input: &mut I) -> Result<Vec<u8>>
     ensures read { IfOk result (λ text. IfSome (I.remaining input.old)
         (λ known. text.items ≡ known)) }
     ensures either { IfErr result
@@ -146,7 +136,7 @@ fn read_text<I: Read>(notes: &Notes<'_>, input: &mut I) -> Result<Vec<u8>, Sessi
 
 // Fails if `input` is closed, which a read of no bytes shows. If `input` were closed, the next file
 // opened could get its descriptor, and be read as the input.
-fn check_input_open<I: Read>(notes: &Notes<'_>, input: &mut I) -> Result<(), SessionError>
+fn check_input_open<I: Read>(notes: &Notes<'_>, input: &mut I) -> Result<()>
     ensures bytes { Keeps (I.remaining input.old) (I.remaining input.new) }
     ensures either { IfErr result
         (λ early. (early ≡ SessionError.Fault Fault.NoMemory) ⊎ (early ≡ SessionError.Device)) }
@@ -161,92 +151,90 @@ fn check_input_open<I: Read>(notes: &Notes<'_>, input: &mut I) -> Result<(), Ses
     }
 }
 
-// Answers the orders of the source, one after the other.
-fn run_orders<R: Threads + Sync + Files + Clock, P: Observer, D: Disk, I: BufRead, O: Write>(
-    at: &Session<'_, R, P>,
-    store: &mut Store<D>,
-    source: &mut lines::Source<I>,
-    out: &mut O,
-) -> Result<(), SessionError>
-where
-    R::File: LockFile,
-    requires fine { store.old.has_failed ≡ false }
-    ensures { (orders : List Order) × IsToCome I.remaining source.old orders
-        × OrdersAll D.view O.contents at.now.calls.mode orders store.old out.old result store.new
-        out.new }
-{
-    for _ in 0..u64::MAX {
-        let Some(order) = source.next(at)? else {
-            return Ok(());
-        };
-        let is_batch = matches!(order, Order::Batch(_));
-        let done = answer(at, store, &order, out);
-        drop(order);
-        done?;
-        at.report.order_done(is_batch);
-    }
-    // Reached only after 2^64 - 1 orders.
-    Err(SessionError::Device)
-}
-
-// Answers the orders of `input` on the open store, and flushes `out`.
-fn run_opened<
-    R: Threads + Sync + Files + Clock,
-    P: Observer,
-    D: Disk + LastError,
-    I: BufRead + Drop,
-    O: Write,
->(at: &Session<'_, R, P>, store: &mut Store<D>, input: I, out: &mut O) -> Result<(), SessionError>
-where
-    R::File: LockFile,
-    requires fine { store.old.has_failed ≡ false }
-    ensures { (parsed : List Line)
-        × IfSome (I.remaining input)
-        (λ text. AreRead (parse_text at.now.calls.mode.stream text) parsed)
-        × OrdersAll D.view O.contents at.now.calls.mode
-        (orders_in at.now.calls.mode.stream at.now.calls.mode.stat parsed) store.old out.old result
-        store.new out.new }
-{
-    at.notes.store_opened(store.settings());
-    let mode = at.calls.mode;
-    let last = mode.stat.then_some(Order::Numbers);
-    let mut source = lines::Source::new(at.calls.alloc, input, mode.stream, last);
-    let done = run_orders(at, store, &mut source, out);
-    drop(source);
-    if done.is_err() {
-        at.notes.record_failure(Source::File, store.disk().reason());
-    }
-    flush(done, out)
-}
-
-// Opens the files and answers the orders of `input`. If no error ends them, writes the copy.
-fn run_source<
-    R: AllocGlobal + Threads + Sync + Files + Clock,
-    P: Observer,
-    I: BufRead + Drop,
-    O: Write,
->(at: &Session<'_, R, P>, input: I, writes: bool, out: &mut O) -> Result<(), SessionError>
+impl<'a, R: Threads + Sync + Files + Clock, P: Observer> Session<'a, R, P>
 where
     R::File: StoreFile,
-    requires mode { at.now.calls.mode ≡ at.now.asked.now.mode }
-    requires crew { at.now.calls.crew ≡ at.now.asked.now.crew }
-    ensures { RunsRead (request_of at.now.asked.now) (I.remaining input) (O.contents out.old)
-        (O.contents out.new) result }
 {
-    let copy = prepare_copy(at)?;
-    let mut store = open_store(at, writes)?;
-    let done = run_opened(at, &mut store, input, out);
-    copy_after(at, &store, copy, done)
+    fn run_orders<D: Disk, I: BufRead, O: Write>(
+        &self,
+        store: &mut Store<D>,
+        source: &mut lines::Source<I>,
+        out: &mut O,
+    ) -> Result<()>
+        requires fine { store.old.has_failed ≡ false }
+        ensures { (orders : List Order) × IsToCome I.remaining source.old orders
+            × OrdersAll D.view O.contents self.now.calls.mode orders store.old out.old result
+            store.new out.new }
+    {
+        for _ in 0..u64::MAX {
+            let Some(order) = source.next(self)? else {
+                return Ok(());
+            };
+            let is_batch = matches!(order, Order::Batch(_));
+            let done = self.answer(store, &order, out);
+            drop(order);
+            done?;
+            self.report.observe(Event::OrderDone { is_batch });
+        }
+        // Reached only after 2^64 - 1 orders.
+        Err(SessionError::Device)
+    }
+
+    // Answers the orders of `input` on the open store, and flushes `out`.
+    fn run_opened<D: Disk + LastError, I: BufRead + Drop, O: Write>(
+        &self,
+        store: &mut Store<D>,
+        input: I,
+        out: &mut O,
+    ) -> Result<()>
+        requires fine { store.old.has_failed ≡ false }
+        ensures { (parsed : List Line)
+            × IfSome (I.remaining input)
+            (λ text. AreRead (parse_text self.now.calls.mode.stream text) parsed)
+            × OrdersAll D.view O.contents self.now.calls.mode
+            (orders_in self.now.calls.mode.stream self.now.calls.mode.stat parsed) store.old out.old
+            result store.new out.new }
+    {
+        self.notes.store_opened(store.settings());
+        let mode = self.calls.mode;
+        let last = mode.stat.then_some(Order::Numbers);
+        let mut source = lines::Source::new(self.calls.alloc, input, mode.stream, last);
+        let done = self.run_orders(store, &mut source, out);
+        drop(source);
+        if done.is_err() {
+            self.notes
+                .record_failure(Source::File, store.disk().reason());
+        }
+        flush(done, out)
+    }
+
+    // Opens the files and answers the orders of `input`. If no error ends them, writes the copy.
+    fn run_source<I: BufRead + Drop, O: Write>(
+        &self,
+        input: I,
+        writes: bool,
+        out: &mut O,
+    ) -> Result<()>
+        requires mode { self.now.calls.mode ≡ self.now.asked.now.mode }
+        requires crew { self.now.calls.crew ≡ self.now.asked.now.crew }
+        ensures { RunsRead (request_of self.now.asked.now) (I.remaining input) (O.contents out.old)
+            (O.contents out.new) result }
+    {
+        let copy = self.prepare_copy()?;
+        let mut store = self.open_store(writes)?;
+        let done = self.run_opened(&mut store, input, out);
+        self.copy_after(&store, copy, done)
+    }
 }
 
 // Runs a session whose text is read and checked before anything runs.
-fn run_text<R: AllocGlobal + Threads + Sync + Files + Clock, P: Observer, I: Read, O: Write>(
+fn run_text<R: Threads + Sync + Files + Clock, P: Observer, I: Read, O: Write>(
     rt: &R,
     notes: &Notes<'_>,
     report: &P,
     input: &mut I,
     out: &mut O,
-) -> Result<(), SessionError>
+) -> Result<()>
 where
     R::File: StoreFile,
     requires { notes.now.asked.now.mode.stream ≡ false }
@@ -257,18 +245,19 @@ where
     let checked = check(notes.alloc, &text)?;
     check_open(out)?;
     let at = Session::new(rt, notes, report)?;
-    report.orders_counted(checked.orders.saturating_add(u64::from(at.calls.mode.stat)));
-    run_source(&at, text.as_slice(), checked.writes, out)
+    let orders = checked.orders.saturating_add(u64::from(at.calls.mode.stat));
+    report.observe(Event::OrdersCounted(orders));
+    at.run_source(text.as_slice(), checked.writes, out)
 }
 
 // Runs a session that answers each order before it reads the next line.
-fn run_stream<R: AllocGlobal + Threads + Sync + Files + Clock, P: Observer, I: Read, O: Write>(
+fn run_stream<R: Threads + Sync + Files + Clock, P: Observer, I: Read, O: Write>(
     rt: &R,
     notes: &Notes<'_>,
     report: &P,
     input: &mut I,
     out: &mut O,
-) -> Result<(), SessionError>
+) -> Result<()>
 where
     R::File: StoreFile,
     requires { notes.now.asked.now.mode.stream ≡ true }
@@ -279,7 +268,7 @@ where
     let at = Session::new(rt, notes, report)?;
     check_input_open(notes, input)?;
     match BufReader::new(notes.alloc, input) {
-        Ok(reader) => run_source(&at, reader, true, out),
+        Ok(reader) => at.run_source(reader, true, out),
         Err(error) => Err(read_fault(error)),
     }
 }
@@ -292,13 +281,13 @@ where
 //
 // With `--stream`, the session ends with an error only if it cannot start, if the store's disk, the
 // input or the output fails, or if the copy at its end does.
-fn run<R: AllocGlobal + Threads + Sync + Files + Clock, P: Observer, I: Read, O: Write>(
+fn run<R: Threads + Sync + Files + Clock, P: Observer, I: Read, O: Write>(
     rt: &R,
     notes: &Notes<'_>,
     report: &P,
     input: &mut I,
     out: &mut O,
-) -> Result<(), SessionError>
+) -> Result<()>
 where
     R::File: StoreFile,
     ensures { Answers (request_of notes.now.asked.now) (I.remaining input.old)
@@ -310,7 +299,7 @@ where
     run_text(rt, notes, report, input, out)
 }
 
-fn show_help<O: Write>(alloc: Global, help: &clap::Error, out: &mut O) -> Result<(), SessionError>
+fn show_help<O: Write>(alloc: Global, help: &clap::Error, out: &mut O) -> Result<()>
     ensures { PrintsOneText (O.contents out.old) (O.contents out.new) result }
 {
     let text = format!(in alloc; "{help}")?;
@@ -318,7 +307,7 @@ fn show_help<O: Write>(alloc: Global, help: &clap::Error, out: &mut O) -> Result
     flush(done, out)
 }
 
-fn show_version<O: Write>(out: &mut O) -> Result<(), SessionError>
+fn show_version<O: Write>(out: &mut O) -> Result<()>
     ensures { Prints false (O.contents out.old) (O.contents out.new) (version_text ∷ []) (Ok tt)
         result }
 {
@@ -326,11 +315,7 @@ fn show_version<O: Write>(out: &mut O) -> Result<(), SessionError>
     flush(done, out)
 }
 
-fn answer_words<O: Write>(
-    alloc: Global,
-    error: clap::Error,
-    out: &mut O,
-) -> Result<(), SessionError>
+fn answer_words<O: Write>(alloc: Global, error: clap::Error, out: &mut O) -> Result<()>
     ensures help { kind_of error ≡ DisplayHelp →
         PrintsOneText (O.contents out.old) (O.contents out.new) result }
     ensures memory { kind_of error ≡ OutOfMemory →
@@ -347,13 +332,13 @@ fn answer_words<O: Write>(
 
 // Runs the session, which reports to `err` while it runs if it is asked to. Without an open `err`,
 // nothing is reported.
-fn run_reported<'a, R: AllocGlobal + Threads + Sync + Files + Clock, I: Read, O: Write, E: Write>(
+fn run_reported<'a, R: Threads + Sync + Files + Clock, I: Read, O: Write, E: Write>(
     rt: &'a R,
     notes: &'a Notes<'a>,
     input: &mut I,
     out: &mut O,
     err: &mut E,
-) -> Result<(), SessionError>
+) -> Result<()>
 where
     R::File: StoreFile,
     ensures answers { Answers (request_of notes.now.asked.now) (I.remaining input.old)
@@ -383,7 +368,7 @@ fn execute_options<R: AllocGlobal + Threads + Sync + Files + Clock, I: Read, O: 
     out: &mut O,
     more: &mut Vec<u8>,
     err: &mut E,
-) -> Result<(), SessionError>
+) -> Result<()>
 where
     R::File: StoreFile,
     requires { more.old.items ≡ [] }
@@ -414,7 +399,7 @@ fn execute<R: AllocGlobal + Threads + Sync + Files + Clock, I: Read, O: Write, E
     out: &mut O,
     more: &mut Vec<u8>,
     err: &mut E,
-) -> Result<(), SessionError>
+) -> Result<()>
 where
     R::File: StoreFile,
     requires { more.old.items ≡ [] }
@@ -430,7 +415,7 @@ where
 }
 
 // Writes the error: a refused command line in several writes, any other error in one.
-fn write_error<E: Write>(error: &SessionError, err: &mut E) -> Result<(), SessionError>
+fn write_error<E: Write>(error: &SessionError, err: &mut E) -> Result<()>
     ensures ok { OnOk result (IfSome (error_text error.now)
         (Appends (E.contents err.old) (E.contents err.new))) }
     ensures err { OnErr result (IfSome (error_text error.now)
@@ -442,11 +427,7 @@ fn write_error<E: Write>(error: &SessionError, err: &mut E) -> Result<(), Sessio
     }
 }
 
-fn write_error_and<E: Write>(
-    error: &SessionError,
-    more: &[u8],
-    err: &mut E,
-) -> Result<(), SessionError>
+fn write_error_and<E: Write>(error: &SessionError, more: &[u8], err: &mut E) -> Result<()>
     ensures { IfSome (error_text error.now)
         (λ text. IsBegun (E.contents err.old) (E.contents err.new) (text ++ more.now)) }
 {
@@ -456,7 +437,7 @@ fn write_error_and<E: Write>(
 
 // Writes the error, if there is one, and then `more` to standard error, and returns the exit
 // status. A failed write is ignored.
-fn end<E: Write>(done: Result<(), SessionError>, more: &[u8], err: &mut E) -> u8
+fn end<E: Write>(done: Result<()>, more: &[u8], err: &mut E) -> u8
     ensures status { result ≡ status_of_end done }
     ensures quiet { IfOk done (λ _. more.now ≡ [] → err.new ≡ err.old) }
     ensures told { IfOk done (λ _. (err.new ≡ err.old)
@@ -525,47 +506,18 @@ where
         (input.new ≡ input.old) × (out.new ≡ out.old) }
 
     // With status 0, the output is the help or the version, or the answers of the orders (batches,
-    // flushes and the like) of all lines. These run on a new store, or, for an existing file, on a
-    // store that some bytes encode: no clause says that these are the bytes of the file. A clean
-    // depends on what the disk returns, which in memory is what was written last. `--tidy` runs
-    // some batches, which change no pairs, before each flush. With `--clean-when-full`, a flush may
-    // compact the tree, and does the cleans of `Store::flush_cleaning`, whose lines are printed in
-    // front of its own even if it is refused. Without `--stream`, no order was refused. With it, a
-    // refused order is answered by one line, and changes no pairs; a line for which an allocation
-    // failed is such an order. With `--copy-to`, a copy of the pairs that the orders leave was made
-    // under the settings of the command line: no clause says that the file holds it.
-    ensures done { result ≡ 0 →
-        AsksForText (map string_bytes words.now)
-        ⊎ ((request : Request) × AsksFor (map string_bytes words.now) request
-        × IfSome (I.remaining input.old) (λ text. (parsed : List Line)
-        × AreRead (parse_text request.mode.stream text) parsed
-        × (request.mode.stream ≡ false → first_bad 1 (parse_text false text) ≡ None)
-        × ((start : Start) × IsStart request start × IsOk start
-        × (shown : Reads) × IsShown request start shown (session_orders request parsed)
-        × (end_from request.mode.stream start shown (session_orders request parsed) ≡
-        Ok tt)
-        × Appends (O.contents out.old) (O.contents out.new)
-        (flat (lines_from request.mode.stream start shown (session_orders request parsed)))
-        × IfSome (copy_of request) (λ settings. IsCopyMade settings
-        (map_kept_from start shown (session_orders request parsed)))))) }
-    ensures bad { result ≡ 3 →
-        (AsksToStream (map string_bytes words.now) → ⊥)
-        × Appends (O.contents out.old) (O.contents out.new) []
-        × IfSome (I.remaining input.old) (λ text. first_bad 1 (parse_text false text) ≢ None) }
+    // flushes and the like) of all lines, on a new store, or, for an existing file, on a store that
+    // some bytes encode: no clause says that these are the bytes of the file, and none that the
+    // file of `--copy-to` holds the copy that was made.
+    ensures done { result ≡ 0 → IsAllDone (map string_bytes words.now) (I.remaining input.old)
+        (O.contents out.old) (O.contents out.new) }
+    ensures bad { result ≡ 3 → IsBad (map string_bytes words.now) (I.remaining input.old)
+        (O.contents out.old) (O.contents out.new) }
 
     // With each status, the output is the help, the version, or a beginning of those answers, after
     // which a stream may have written the line for a failed device, or a part of it.
-    ensures beginning { AsksForText (map string_bytes words.now)
-        ⊎ Appends (O.contents out.old) (O.contents out.new) []
-        ⊎ ((request : Request) × AsksFor (map string_bytes words.now) request
-        × IfSome (I.remaining input.old) (λ text. (parsed : List Line)
-        × AreRead (parse_text request.mode.stream text) parsed
-        × ((start : Start) × IsStart request start
-        × (shown : Reads) × IsShown request start shown (session_orders request parsed)
-        × ((front : Bytes) × (last : Bytes)
-        × BeginsWith (flat (lines_from request.mode.stream start shown (session_orders request parsed))) front
-        × BeginsWith (device_line request.mode.stream) last
-        × Appends (O.contents out.old) (O.contents out.new) (front ++ last))))) }
+    ensures beginning { HasBegun (map string_bytes words.now) (I.remaining input.old)
+        (O.contents out.old) (O.contents out.new) }
 
     // The exit status and the output are those defined for this command line, this input and such a
     // store, unless an allocation or a device fails; a fault of the copy may make the status 4.

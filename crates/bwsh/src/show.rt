@@ -11,7 +11,7 @@ ghost use Rattle.bwsh.specs.Shown.{number_line, shown_answer, shown_numbers, sho
 ghost use Rattle.bwsh.specs.Token.{shown_token};
 
 use crate::output::{Buffer, write_bytes};
-use crate::session::SessionError;
+use crate::session::{Result, SessionError};
 use crate::token::put_token;
 use engine::{Answer, Report};
 use keys::{Fault, Reply, RowList, Settings};
@@ -68,14 +68,7 @@ impl fmt::Display for NumberLine {
             NumberLine::Upgraded(sequence) => writeln!(f, "upgraded {sequence}"),
             NumberLine::Tidied(pages) => writeln!(f, "tidied {pages}"),
             NumberLine::Copied(pairs) => writeln!(f, "copied {pairs}"),
-            NumberLine::Report(report) => {
-                let Report {
-                    pages,
-                    height,
-                    pairs,
-                } = *report;
-                writeln!(f, "ok {pages} {height} {pairs}")
-            }
+            NumberLine::Report(r) => writeln!(f, "ok {} {} {}", r.pages, r.height, r.pairs),
             NumberLine::Numbers(numbers) => write_numbers(numbers, f),
             NumberLine::Settings(settings) => write_settings(settings, f),
         }
@@ -121,11 +114,7 @@ fn write_settings<W: fmt::Write>(settings: &Settings, f: &mut fmt::Formatter<W>)
 
 impl Buffer {
     /// Adds a line of numbers.
-    pub fn put_numbers<O: Write>(
-        &mut self,
-        line: NumberLine,
-        out: &mut O,
-    ) -> Result<(), SessionError>
+    pub fn put_numbers<O: Write>(&mut self, line: NumberLine, out: &mut O) -> Result<()>
         ensures { Puts O.contents self.old out.old self.new out.new (number_line line) result }
     {
         let mut text = InlineText::<LINE>::new();
@@ -137,12 +126,7 @@ impl Buffer {
     }
 
     /// Adds the line of a row.
-    pub fn put_row<O: Write>(
-        &mut self,
-        key: &[u8],
-        value: &[u8],
-        out: &mut O,
-    ) -> Result<(), SessionError>
+    pub fn put_row<O: Write>(&mut self, key: &[u8], value: &[u8], out: &mut O) -> Result<()>
         ensures { Puts O.contents self.old out.old self.new out.new
             (shown_row (key.now, value.now)) result }
     {
@@ -152,11 +136,7 @@ impl Buffer {
         self.put(b"\n", out)
     }
 
-    fn put_rows<O: Write>(
-        &mut self,
-        rows: &RowList<Global>,
-        out: &mut O,
-    ) -> Result<(), SessionError>
+    fn put_rows<O: Write>(&mut self, rows: &RowList<Global>, out: &mut O) -> Result<()>
         ensures { Puts O.contents self.old out.old self.new out.new
             (flat_map shown_row rows.now) result }
     {
@@ -166,7 +146,7 @@ impl Buffer {
         Ok(())
     }
 
-    fn put_value<O: Write>(&mut self, value: &[u8], out: &mut O) -> Result<(), SessionError>
+    fn put_value<O: Write>(&mut self, value: &[u8], out: &mut O) -> Result<()>
         ensures { Puts O.contents self.old out.old self.new out.new
             (codes "value " ++ shown_token value.now ++ 10 ∷ []) result }
     {
@@ -175,11 +155,7 @@ impl Buffer {
         self.put(b"\n", out)
     }
 
-    fn put_reply<O: Write>(
-        &mut self,
-        reply: &Reply<Global>,
-        out: &mut O,
-    ) -> Result<(), SessionError>
+    fn put_reply<O: Write>(&mut self, reply: &Reply<Global>, out: &mut O) -> Result<()>
         ensures { Puts O.contents self.old out.old self.new out.new
             (shown_reply reply.now) result }
     {
@@ -200,11 +176,7 @@ impl Buffer {
     }
 }
 
-fn print_replies<O: Write>(
-    alloc: Global,
-    replies: &[Reply<Global>],
-    out: &mut O,
-) -> Result<(), SessionError>
+fn print_replies<O: Write>(alloc: Global, replies: &[Reply<Global>], out: &mut O) -> Result<()>
     ensures { Writes (O.contents out.old) (O.contents out.new)
         (map shown_reply replies.now) result }
 {
@@ -216,7 +188,7 @@ fn print_replies<O: Write>(
 }
 
 /// Prints a line of numbers.
-pub fn print_numbers<O: Write>(line: NumberLine, out: &mut O) -> Result<(), SessionError>
+pub fn print_numbers<O: Write>(line: NumberLine, out: &mut O) -> Result<()>
     ensures { Writes (O.contents out.old) (O.contents out.new)
         (number_line line ∷ []) result }
 {
@@ -229,11 +201,7 @@ pub fn print_numbers<O: Write>(line: NumberLine, out: &mut O) -> Result<(), Sess
 }
 
 /// Prints the answer to a step.
-pub fn print_answer<O: Write>(
-    alloc: Global,
-    answer: &Answer,
-    out: &mut O,
-) -> Result<(), SessionError>
+pub fn print_answer<O: Write>(alloc: Global, answer: &Answer, out: &mut O) -> Result<()>
     ensures { Writes (O.contents out.old) (O.contents out.new)
         (shown_answer (answer_of answer.now)) result }
 {
@@ -245,11 +213,7 @@ pub fn print_answer<O: Write>(
     }
 }
 
-pub(crate) fn print_answers<O: Write>(
-    alloc: Global,
-    answers: &[Answer],
-    out: &mut O,
-) -> Result<(), SessionError>
+pub(crate) fn print_answers<O: Write>(alloc: Global, answers: &[Answer], out: &mut O) -> Result<()>
     ensures { Writes (O.contents out.old) (O.contents out.new)
         (flat_map shown_answer (map answer_of answers.now)) result }
 {
@@ -261,7 +225,7 @@ pub(crate) fn print_answers<O: Write>(
 
 /// Prints an error: the answer to a bad line of a stream, the last line of a stream whose disk
 /// failed, or the report of a session's end. The error is formatted first, so that it is one write.
-pub fn print_error<O: Write>(error: &SessionError, out: &mut O) -> Result<(), SessionError>
+pub fn print_error<O: Write>(error: &SessionError, out: &mut O) -> Result<()>
     ensures ok { OnOk result (IfSome (error_text error.now)
         (Appends (O.contents out.old) (O.contents out.new))) }
     ensures err { OnErr result (IfSome (error_text error.now)
@@ -276,7 +240,7 @@ pub fn print_error<O: Write>(error: &SessionError, out: &mut O) -> Result<(), Se
 }
 
 /// Prints the line that answers a refused order of a stream.
-pub fn print_refusal<O: Write>(fault: &Fault, out: &mut O) -> Result<(), SessionError>
+pub fn print_refusal<O: Write>(fault: &Fault, out: &mut O) -> Result<()>
     ensures { (told : Bytes) × Writes (O.contents out.old) (O.contents out.new)
         (fault_line told ∷ []) result }
 {

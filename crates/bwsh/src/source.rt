@@ -12,8 +12,8 @@ use crate::context::Session;
 use crate::line::{Line, LineReader};
 use crate::notes::Source as FailedSource;
 use crate::order::{Batch, Order};
-use crate::progress::Observer;
-use crate::session::SessionError;
+use crate::progress::{Event, Observer};
+use crate::session::{Result, SessionError};
 use bstr::ByteSlice;
 use keys::Command;
 use std::alloc::Global;
@@ -38,7 +38,6 @@ fn without_end(line: &[u8]) -> &[u8]
     &line[..n - 2]
 }
 
-// Returns how many bytes the first line has, with its line feed.
 fn line_len(bytes: &[u8]) -> usize
     ensures { result ≡ line_len bytes.now }
 {
@@ -142,7 +141,6 @@ impl<I: BufRead> Source<I> {
         }
     }
 
-    // Parses what was read, if it is a line.
     fn parse(&mut self) -> Option<Line>
         ensures parsed { IsParsed self.old.is_stream self.old.text.items result }
         ensures input { self.new.input ≡ self.old.input }
@@ -185,10 +183,7 @@ impl<I: BufRead> Source<I> {
     }
 
     // Reads and parses the next line. Returns `None` at the end of the input.
-    fn read_line<R, P: Observer>(
-        &mut self,
-        at: &Session<'_, R, P>,
-    ) -> Result<Option<Line>, SessionError>
+    fn read_line<R, P: Observer>(&mut self, at: &Session<'_, R, P>) -> Result<Option<Line>>
         ensures read { IfOk result (IsRead self.old.is_stream (I.remaining self.old.input)
             (I.remaining self.new.input)) }
         ensures device { IfErr result (λ early. early ≡ SessionError.Device) }
@@ -204,7 +199,7 @@ impl<I: BufRead> Source<I> {
         match self.try_read() {
             Ok(Some(line)) => {
                 at.notes.record_line(number, &line);
-                at.report.line_read(number);
+                at.report.observe(Event::LineRead(number));
                 Ok(Some(line))
             }
             Ok(None) => {
@@ -330,10 +325,7 @@ impl<I: BufRead> Source<I> {
 
     /// Reads up to the next order, and returns it; `None` after the last one. Fails if the input
     /// cannot be read, or has 2^64 lines.
-    pub fn next<R, P: Observer>(
-        &mut self,
-        at: &Session<'_, R, P>,
-    ) -> Result<Option<Order>, SessionError>
+    pub fn next<R, P: Observer>(&mut self, at: &Session<'_, R, P>) -> Result<Option<Order>>
         ensures next { IfOk result (IsNext I.remaining self.old self.new) }
         ensures device { IfErr result (λ early. early ≡ SessionError.Device) }
         ensures stream { self.new.is_stream ≡ self.old.is_stream }

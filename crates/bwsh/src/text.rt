@@ -4,7 +4,7 @@ ghost use Rattle.std.specs.List.{list_any};
 ghost use Rattle.bwsh.specs.BatchFile.{IsReadError, IsWithin, first_bad, line_writes, orders_of, parse_text, writes};
 
 use crate::line::{Line, LineReader};
-use crate::session::SessionError;
+use crate::session::{Result, SessionError};
 use bstr::ByteSlice;
 use keys::Fault;
 use std::alloc::Global;
@@ -22,7 +22,7 @@ pub struct Checked {
 
 impl Checked {
     // Counts the orders of the line with this number. Fails if the line is bad or lost.
-    fn count(&mut self, number: u64, line: &Line) -> Result<(), SessionError>
+    fn count(&mut self, number: u64, line: &Line) -> Result<()>
         ensures within { OnOk result (IsWithin (line.now ∷ [])) }
         ensures writes { OnOk result
             (self.new.writes ≡ (self.old.writes || line_writes line.now)) }
@@ -62,7 +62,7 @@ impl Checked {
 
 /// Checks that each line of a text can be parsed, and counts the orders. Fails with the first bad
 /// line, or if an allocation fails.
-pub fn check(alloc: Global, text: &[u8]) -> Result<Checked, SessionError>
+pub fn check(alloc: Global, text: &[u8]) -> Result<Checked>
     ensures good { IfOk result (λ _. first_bad 1 (parse_text false text.now) ≡ None) }
     ensures writes { IfOk result (λ checked. checked.writes
         ≡ list_any writes (orders_of [] (parse_text false text.now))) }

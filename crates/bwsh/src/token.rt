@@ -5,7 +5,7 @@ ghost use Rattle.bwsh.specs.Token.{hex_value, hex_byte, stands_for_itself, unesc
 ghost use Rattle.bwsh.specs.Output.{Puts};
 
 use crate::output::Buffer;
-use crate::session::SessionError;
+use crate::session::Result;
 use std::alloc::AllocError;
 use std::io::Write;
 
@@ -106,7 +106,7 @@ fn hex_digit(value: u8) -> u8
     }
 }
 
-fn put_byte<O: Write>(byte: u8, buffer: &mut Buffer, out: &mut O) -> Result<(), SessionError>
+fn put_byte<O: Write>(byte: u8, buffer: &mut Buffer, out: &mut O) -> Result<()>
     ensures { Puts O.contents buffer.old out.old buffer.new out.new (shown_byte byte) result }
 {
     if stands_for_itself(byte) {
@@ -117,11 +117,7 @@ fn put_byte<O: Write>(byte: u8, buffer: &mut Buffer, out: &mut O) -> Result<(), 
 }
 
 /// Encodes `bytes` as a token and adds it to the buffer.
-pub fn put_token<O: Write>(
-    bytes: &[u8],
-    buffer: &mut Buffer,
-    out: &mut O,
-) -> Result<(), SessionError>
+pub fn put_token<O: Write>(bytes: &[u8], buffer: &mut Buffer, out: &mut O) -> Result<()>
     ensures { Puts O.contents buffer.old out.old buffer.new out.new (shown_token bytes.now) result }
 {
     if bytes.is_empty() {
