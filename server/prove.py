@@ -3,6 +3,7 @@
 functions in `bodies`, whose form `checks/bodies.py` describes. The plan uses the crate `keys`, whose library the gate has built (or `rt ci`).
 
     server/prove.py [--text | --plan]       # --text: the text layer alone; --plan: also the buffers and the plan; without both: also peers and rounds
+    server/prove.py --laws                  # the law of a server's life, over the libraries of the engine and of all crates below it
     server/prove.py --plan --only plan::requests::read     # only these functions, without the broken ones
 """
 
@@ -58,12 +59,12 @@ class Part:
 
     def copy_crates(self, workspace: Path) -> None:
         """Copies the engine's crates that these layers use, each with the library that the gate has built."""
-        lines = dict(line.split(": ", 1) for line in (TOP / "crates.txt").read_text().splitlines() if not line.startswith("#"))
+        crates = read_crates()
         for name in self.crates:
             if not (TOP / "crates" / name / "out/rlib").is_dir():
                 sys.exit(f"the library of {name} is missing: run `rt ci {name}` or `./check --gate` first")
             shutil.copytree(TOP / "crates" / name, workspace / "crates" / name)
-        written = [f"{name}: {lines[name]}" for name in self.crates]
+        written = [f"{name}: {' '.join(crates[name])}" for name in self.crates]
         (workspace / "crates.txt").write_text("\n".join([*written, f"{CRATE}: {' '.join((*self.crates, *self.uses))}"]) + "\n")
 
 
@@ -71,15 +72,34 @@ TEXT = Part(("text",), ("Reading", "Text"), ("Arrays", "Digits", "Fronts", "Line
 BUFFERS = Part(("buffers",), ("Buffers", "History", "Kept"), ("Histories", "KeptBytes"), ("http_server",))
 PLAN = Part(
     ("plan",),
-    ("Bounds", "Cursors", "Meaning", "OnKey", "Peer", "Plan", "Uses", "Verbs"),
-    ("BoundLemmas", "CursorLemmas", "Meant", "OptionWords", "Planning", "Requested", "WordPairs"),
+    ("Asking", "Bounds", "Cursors", "Meaning", "OnKey", "Peer", "Plan", "Queues", "Uses", "Verbs"),
+    ("AskingLemmas", "BoundLemmas", "CursorLemmas", "Meant", "OptionWords", "Planning", "Requested", "WordPairs"),
     ("thiserror",),
     ("keys",),
 )
-PEER = Part(("peer",), ("Next",), ("Nexts", "Taking"), ())
-ROUND = Part(("round",), ("Answering", "Answers", "Round"), ("Rounds", "Turns", "Used", "Waiting"), ("slab",))
+PEER = Part(("peer",), ("Next", "Taking"), ("Nexts", "Taking"), ())
+ROUND = Part(("round",), ("Answering", "Answers", "Round"), ("Counting", "Rounds", "Turns", "Used", "Waiting"), ("slab",))
 PLANS = TEXT.and_(BUFFERS).and_(PLAN)
 ALL = PLANS.and_(PEER).and_(ROUND)
+LAW = "laws::rounds_are_a_play"
+
+
+def read_crates() -> dict[str, list[str]]:
+    """Returns the libraries that each of the engine's crates uses."""
+    lines = (TOP / "crates.txt").read_text().splitlines()
+    return {name: used.split() for name, used in (line.split(": ", 1) for line in lines if not line.startswith("#"))}
+
+
+def crates_up_to(crates: dict[str, list[str]], name: str) -> list[str]:
+    """Returns this crate behind all crates that it uses, each once."""
+    below = [crate for used in crates[name] if used in crates for crate in crates_up_to(crates, used)]
+    return list(dict.fromkeys([*below, name]))
+
+
+def laws() -> Part:
+    """Returns all layers, and the law above them that speaks of the engine."""
+    engine = tuple(crate for crate in crates_up_to(read_crates(), "engine") if crate not in ALL.crates)
+    return ALL.and_(Part(("laws",), ("Life",), ("Lives",), (), engine))
 
 
 def refuses_broken(workspace: Path, part: Part) -> bool:
@@ -101,12 +121,14 @@ def main() -> None:
     parser = argparse.ArgumentParser(description=__doc__, formatter_class=argparse.RawDescriptionHelpFormatter)
     parser.add_argument("--text", action="store_true", help="prove the text layer alone")
     parser.add_argument("--plan", action="store_true", help="prove the text layer, the buffers and the plan")
+    parser.add_argument("--laws", action="store_true", help="prove the law that speaks of the engine alone")
     parser.add_argument("--only", nargs="+", default=[], metavar="PATH", help="prove these functions alone")
     options = parser.parse_args()
-    part = TEXT if options.text else PLANS if options.plan else ALL
+    part = TEXT if options.text else PLANS if options.plan else laws() if options.laws else ALL
+    only = [LAW] if options.laws else options.only
     with tempfile.TemporaryDirectory() as folder:
         crate = part.copy(Path(folder))
-        is_right = is_proved(Path(folder), crate, options.only) and (bool(options.only) or refuses_broken(Path(folder), part))
+        is_right = is_proved(Path(folder), crate, only) and (bool(only) or refuses_broken(Path(folder), part))
     sys.exit(not is_right)
 
 
