@@ -131,6 +131,7 @@ def full_logs(by_program: Mapping[str, Curve]) -> str:
 
 
 STEP = 26  # of one row
+SERVERS = ["#1b6ca8", "#888888", "#7db4dc", "#cccccc"]
 
 
 def bar(x: float, y: float, width: float, height: float, colour: str) -> str:
@@ -190,5 +191,25 @@ def goals(figures: Mapping[str, Any], settings: Sequence[str]) -> str:
     if "growth" in figures:
         parts += lines(figures["growth"], height + 20, 180)
         height += 240
+    head = f'<svg xmlns="http://www.w3.org/2000/svg" width="{WIDTH}" height="{height}" font-family="sans-serif">'
+    return "\n".join([head, '<rect width="100%" height="100%" fill="white"/>', *parts, "</svg>"]) + "\n"
+
+
+def servers(rates: Mapping[str, Sequence[float]], names: Sequence[str]) -> str:
+    """Draws requests a second: for each load a bar for each server."""
+    left, top, thick = 330, 50, STEP * 0.9 / len(names)
+    scale = (RIGHT - left - 60) / max(max(row) for row in rates.values())
+    parts: list[str] = []
+    for at, (name, colour) in enumerate(zip(names, SERVERS)):
+        parts += [bar(left + 140 * at, 14, 12, 12, colour), text(left + 140 * at + 18, 24, name, size=12)]
+    parts.append(text(left - 10, 24, "requests a second", "end", 12))
+    for at, (load, row) in enumerate(rates.items()):
+        y = top + at * STEP
+        parts.append(text(left - 10, y + STEP / 2 + 4, load, "end", 12))
+        for place, (rate, colour) in enumerate(zip(row, SERVERS)):
+            at_y = y + place * thick
+            parts.append(bar(left, at_y, rate * scale, thick - 0.5, colour))
+            parts.append(text(left + rate * scale + 4, at_y + thick - 0.5, f"{rate:,.0f}", size=7))
+    height = top + STEP * len(rates) + 10
     head = f'<svg xmlns="http://www.w3.org/2000/svg" width="{WIDTH}" height="{height}" font-family="sans-serif">'
     return "\n".join([head, '<rect width="100%" height="100%" fill="white"/>', *parts, "</svg>"]) + "\n"

@@ -2,7 +2,8 @@
 """Measures `bwserve` and `redis-server` with `redis-benchmark`: requests a second, and latencies in milliseconds (50th and 99th percentile).
 
 Both servers run with the same allocator if `--allocator LIBRARY` names one, such as Debian's libjemalloc.so.2: it is loaded in front of the C library.
-Compare the columns of one run only. `--full MINUTES` measures a log in steady state, which is cleaned all the time, beside a new log."""
+Compare the columns of one run only. The last two columns have the requests a second of `bwserve` divided by those of Redis, durable before each answer
+and once a second. `--full MINUTES` measures a log in steady state, which is cleaned all the time, beside a new log."""
 
 import argparse
 import csv
@@ -20,6 +21,7 @@ from pathlib import Path
 TOP = Path(__file__).resolve().parent.parent
 sys.path.insert(0, str(TOP))
 
+from bench import plot
 from bench.tables import print_table
 from tools.processes import exit_if_missing
 from tools.serving import Client, Server
@@ -121,10 +123,19 @@ KINDS = [Kind("bwserve", True, "always"), Kind("Redis, always", False, "always")
 KINDS += [Kind("bwserve --flush 1", True, "1"), Kind("Redis, everysec", False, "everysec")]
 
 
-def measure_kind(kind: Kind, loads: list[Load], options: argparse.Namespace) -> list[str]:
+def measure_kind(kind: Kind, loads: list[Load], options: argparse.Namespace) -> list[list[Rate]]:
     """Measures the loads one after the other on one store, which is empty at the start."""
     with tempfile.TemporaryDirectory(dir=options.folder) as folder, kind.run(options, Path(folder)) as port:
-        return ["; ".join(map(str, measure(port, load, options.scale))) for load in loads]
+        return [measure(port, load, options.scale) for load in loads]
+
+
+def requests_in(rates: list[Rate]) -> float:
+    return sum(rate.requests for rate in rates)
+
+
+def row_of(load: Load, by_kind: list[list[Rate]]) -> list[str]:
+    ours, always, ours_later, everysec = map(requests_in, by_kind)
+    return [load.name(), *("; ".join(map(str, rates)) for rates in by_kind), f"{ours / always:.2f}", f"{ours_later / everysec:.2f}"]
 
 
 def measure_full(kind: Kind, options: argparse.Namespace) -> list[list[str]]:
@@ -150,6 +161,7 @@ def main() -> None:
     parser.add_argument("--workers", type=int, default=1, help="of bwserve")
     parser.add_argument("--scale", type=float, default=1.0, help="factor of the number of requests")
     parser.add_argument("--full", type=float, default=0.0, metavar="MINUTES", help="measure a full log for so long")
+    parser.add_argument("--plot", type=Path, metavar="FILE", help="draw the requests a second into this file, such as bench/server.svg")
     options = parser.parse_args()
     exit_if_missing(options.program)
     missing = [name for name in ("redis-benchmark", "redis-server") if shutil.which(name) is None]
@@ -159,8 +171,12 @@ def main() -> None:
         print_table(["server", "SET", "cleans so far", "growths"], [row for kind in KINDS[:2] for row in measure_full(kind, options)])
         return
     loads = [Load(command, count, depth) for command in ("SET", "GET", "MIXED") for depth in PIPELINES for count in CONNECTIONS]
-    columns = [measure_kind(kind, loads, options) for kind in KINDS]
-    print_table(["load", *(kind.name for kind in KINDS)], [[load.name(), *row] for load, *row in zip(loads, *columns)])
+    measured = list(zip(*(measure_kind(kind, loads, options) for kind in KINDS), strict=True))
+    names = [kind.name for kind in KINDS]
+    print_table(["load", *names, "always", "each second"], [row_of(load, list(rates)) for load, rates in zip(loads, measured, strict=True)])
+    if options.plot:
+        rates_of = {load.name(): list(map(requests_in, rates)) for load, rates in zip(loads, measured, strict=True)}
+        options.plot.write_text(plot.servers(rates_of, names))
 
 
 if __name__ == "__main__":
