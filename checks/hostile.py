@@ -51,6 +51,10 @@ def deep_leaf() -> bytes:
     return fitting_disk([ONE_PAIR, *[delta_leaf(0, {b"a": None})] * DEEP])
 
 
+def deep_leaf_of_many_keys() -> bytes:
+    return fitting_disk([ONE_PAIR, *[delta_leaf(0, {b"%07d" % number: None}) for number in range(DEEP)]])
+
+
 def deep_index() -> bytes:
     leaves = [ONE_PAIR, full_leaf(1, b"c", {b"c": b"3"})]
     root = full_index(2, b"", {b"": 0, b"c": 1})
@@ -141,6 +145,7 @@ NO_FRAME = (4, b"", b"fault 15 BadFrame 0 %d\n" % (HEADER + len(ONE_PAIR)))
 
 DISKS = [
     HostileDisk(f"{DEEP:,} runs of a leaf", deep_leaf, (4, b"", TOO_DEEP % 0), pages=ROOM),
+    HostileDisk(f"{DEEP:,} runs of a leaf, each of another key", deep_leaf_of_many_keys, (4, b"", TOO_DEEP % 0), pages=ROOM),
     HostileDisk(f"{DEEP:,} runs of a leaf, four workers", deep_leaf, (4, b"", TOO_DEEP % 0), ("--workers", "4"), pages=ROOM),
     HostileDisk(f"{DEEP:,} runs of an index page", deep_index, (4, b"", TOO_DEEP % 2), pages=ROOM),
     HostileDisk(f"{DEEP:,} runs of eight leaves", deep_leaves, (4, b"", TOO_DEEP % 0), pages=ROOM),

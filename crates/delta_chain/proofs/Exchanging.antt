@@ -9,12 +9,11 @@ use Rattle.std.proofs.lemmas.Map.Keys.{sorted_tail}
 use Rattle.keys.specs.Order.{order, IsRising}
 use Rattle.keys.specs.OrderedMap.{value_at, with_pair}
 use Rattle.keys.proofs.MapLemmas.{order_itself, is_apart, passes_same, same_map, value_at-with_pair_here, rising-with_pair}
-use Rattle.delta_chain.specs.Exchange.{exchanged_at, in_place_of, exchanged_under, exchanged}
+use Rattle.delta_chain.specs.Exchange.{exchanged_at, exchanged_under, exchanged}
 use Rattle.delta_chain.specs.Layers.{Layers, change_or, held_under, holds, entries_of, AllRise, IsInOrder}
 use Rattle.delta_chain.specs.Packed.{packed_from, IsPacked}
 use Rattle.delta_chain.specs.Counted.{IsCounted}
 use Rattle.delta_chain.proofs.Counts.{most_with_pair}
-use Rattle.delta_chain.proofs.NewestRunLemmas.{known-exchanged}
 use Rattle.delta_chain.proofs.LayerLemmas.{value_at-with_change, rising-entries_of, value_at-entries_of}
 use Rattle.delta_chain.proofs.Setting.{first_below, value_at-found}
 
@@ -240,35 +239,6 @@ module _ {V : Type 0} where
   pub missed-base : (base : List (List ℕ × V)) (k : List ℕ) (v : V) → value_at k base ≡ None → Base base ≡ exchanged (Base base) k v
   missed-base base k v h = rw h refl
 
-  exchanged-run_by : (o : Option V) (run : List (List ℕ × Option V)) (p : Layers V) (at : ℕ) (k : List ℕ) (v : V) → IsRising run → slice_get (keys_of run) at ≡ Some k → slice_get (values_of run) at ≡ Some o → Over (exchanged_at run at (in_place_of o v)) p ≡ exchanged (Over run p) k v
-  exchanged-run_by None run p at k v r h g =
-      let there : value_at k run ≡ Some None = value_at-found run at k r h ∙ g in
-      rw (there, exchanged_at-same run at None g) refl
-  exchanged-run_by (Some w) run p at k v r h g =
-      let there : value_at k run ≡ Some (Some w) = value_at-found run at k r h ∙ g in
-      rw (there, exchanged_at-pair run at k (Some v) r h) refl
-
-  -- in the newest run, at the place of the key
-  pub exchanged-run : (run now : List (List ℕ × Option V)) (p : Layers V) (at : ℕ) (k : List ℕ) (v : V) → IsRising run → slice_get (keys_of run) at ≡ Some k
-      → ((o : Option V) → slice_get (values_of run) at ≡ Some o → now ≡ exchanged_at run at (in_place_of o v)) → Over now p ≡ exchanged (Over run p) k v
-  exchanged-run run now p at k v r h f =
-      let o = item_there run at k h in
-      ap (λ (m : List (List ℕ × Option V)). Over m p) (f o.0 o.1) ∙ exchanged-run_by o.0 run p at k v r h o.1
-
-  pub held-run : (run : List (List ℕ × Option V)) (at : ℕ) (k : List ℕ) (below : Option V) (v now : V) → IsRising run → slice_get (keys_of run) at ≡ Some k
-      → ((o : Option V) → slice_get (values_of run) at ≡ Some o → now ≡ unwrap_or o v) → now ≡ unwrap_or (change_or (value_at k run) below) v
-  held-run run at k below v now r h f =
-      let o = item_there run at k h in
-      let there : value_at k run ≡ Some o.0 = value_at-found run at k r h ∙ o.1 in
-      rw there (f o.0 o.1)
-
-  -- below a run that doesn't name the key
-  pub exchanged-below : (run : List (List ℕ × Option V)) (p : Layers V) (k : List ℕ) (v : V) → value_at k run ≡ None → Over run (exchanged p k v) ≡ exchanged (Over run p) k v
-  exchanged-below run p k v h = rw h refl
-
-  pub held-below : (run : List (List ℕ × Option V)) (k : List ℕ) (below : Option V) (v now : V) → value_at k run ≡ None → now ≡ unwrap_or below v → now ≡ unwrap_or (change_or (value_at k run) below) v
-  held-below run k below v now h e = rw h e
-
   -- ---- what a chain keeps
 
   least_by : (o : Option V) (p : Layers V) (k : List ℕ) (v : V) → holds p k ≡ o → IsInOrder p → length (entries_of (exchanged p k v)) ≤ length (entries_of p)
@@ -281,12 +251,11 @@ module _ {V : Type 0} where
   least_exchanged : (p : Layers V) (k : List ℕ) (v : V) → IsInOrder p → length (entries_of (exchanged p k v)) ≤ length (entries_of p)
   least_exchanged p k v a = least_by (holds p k) p k v refl a
 
-  pub counted_exchanged : (p : Layers V) (k : List ℕ) (v : V) (fewest most : ℕ) (newest : List ℕ) → IsCounted p fewest most newest → IsCounted (exchanged p k v) fewest most newest
-  counted_exchanged p k v fewest most newest h =
+  pub counted_exchanged : (p : Layers V) (k : List ℕ) (v : V) (fewest most : ℕ) → IsCounted p fewest most → IsCounted (exchanged p k v) fewest most
+  counted_exchanged p k v fewest most h =
       let more = most_exchanged p k v h.rising in
       record {
         rising = rising-exchanged p k v h.rising;
         entries = omega (arith, h.entries, more);
         no_more = still_no_more (length (entries_of (exchanged p k v))) (length (entries_of p)) most (2 ^ 64 - 1) (least_exchanged p k v h.rising) h.no_more;
-        known = known-exchanged newest k v p.runs p.base h.known;
       }

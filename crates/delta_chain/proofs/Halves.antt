@@ -13,7 +13,7 @@ use Rattle.delta_chain.proofs.Overlays.{rising-none, rising-asserted, rising-joi
 
 module _ {V : Type 0} where
   -- what asserted changes say of a key, by what the changes say of it
-  abbrev reported : Option (Option V) → Option (Option (Option V))
+  abbrev pub reported : Option (Option V) → Option (Option (Option V))
   reported None = None
   reported (Some o) = Some (Some o)
 
@@ -35,7 +35,7 @@ module _ {V : Type 0} where
   over_none (Some o) = refl
 
   -- changes laid over others say of a key what they say of it, else what the others say
-  value_at-overlaid : (older newer : List (List ℕ × Option V)) (q : List ℕ) → IsRising older → IsRising newer
+  pub value_at-overlaid : (older newer : List (List ℕ × Option V)) (q : List ℕ) → IsRising older → IsRising newer
       → value_at q (overlaid older newer) ≡ change_or (reported (value_at q newer)) (value_at q older)
   value_at-overlaid older newer q r s =
       value_at-with_run older (asserted newer) q r (rising-asserted newer s) ∙ ap (λ (t : Option (Option (Option V))). change_or t (value_at q older)) (value_at-asserted q newer)

@@ -6,9 +6,9 @@ mod Halves
 pub mod LazyLemmas
 pub mod LayerLemmas
 pub mod Lending
+mod LocatorLemmas
 mod Lower
 pub mod Merges
-mod NewestRunLemmas
 pub mod Overlays
 mod Packing
 pub mod Places

@@ -32,7 +32,7 @@ module _ {V : Type 0} where
   change_after e es k (Some v) h = rw (flipped_less e.0 k h) refl
 
   -- and so does a run above it
-  run_after : (e : List ℕ × V) (es : List (List ℕ × V)) (run : List (List ℕ × Option V)) → IsBelowAll e.0 (keys_of run) → with_run (e ∷ es) run ≡ e ∷ with_run es run
+  pub run_after : (e : List ℕ × V) (es : List (List ℕ × V)) (run : List (List ℕ × Option V)) → IsBelowAll e.0 (keys_of run) → with_run (e ∷ es) run ≡ e ∷ with_run es run
   run_after e es [] a = refl
   run_after e es (c ∷ cs) a = ap (λ (m : List (List ℕ × V)). with_run m cs) (change_after e es c.0 c.1 a.0) ∙ run_after e (with_change es c.0 c.1) cs a.1
 
@@ -108,7 +108,7 @@ module _ {V : Type 0} where
   there_is_one (e ∷ es) zero k o h n = omega arith
   there_is_one (e ∷ es) (suc from) k o h n = let l : from < length es = there_is_one es from k o h n in omega arith
 
-  run_past : (es : List (List ℕ × V)) (run : List (List ℕ × Option V)) (at : ℕ) → length run ≤ at → with_run es (drop at run) ≡ es
+  pub run_past : (es : List (List ℕ × V)) (run : List (List ℕ × Option V)) (at : ℕ) → length run ≤ at → with_run es (drop at run) ≡ es
   run_past es [] zero h = refl
   run_past es [] (suc at) h = refl
   run_past es (c ∷ cs) zero h = absurd (omega arith)

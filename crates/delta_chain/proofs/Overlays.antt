@@ -53,7 +53,7 @@ module _ {V : Type 0} where
   rising-joined_changes [] base a = tt
   rising-joined_changes (run ∷ runs) base a = rising-with_run (joined_changes runs) (asserted run) (rising-joined_changes runs base a.1)
 
-  held-joined_changes : (runs : List (List (List ℕ × Option V))) (base : List (List ℕ × V)) (q : List ℕ) → AllRise runs base → change_or (value_at q (joined_changes runs)) (value_at q base) ≡ held_under q runs base
+  pub held-joined_changes : (runs : List (List (List ℕ × Option V))) (base : List (List ℕ × V)) (q : List ℕ) → AllRise runs base → change_or (value_at q (joined_changes runs)) (value_at q base) ≡ held_under q runs base
   held-joined_changes [] base q a = refl
   held-joined_changes (run ∷ runs) base q a =
       ap (λ (t : Option (Option V)). change_or t (value_at q base)) (value_at-with_run (joined_changes runs) (asserted run) q (rising-joined_changes runs base a.1) (rising-asserted run a.0))

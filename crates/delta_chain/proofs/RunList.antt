@@ -1,23 +1,18 @@
 -- The list of a chain's runs, oldest first, and the page that they form.
-use Rattle.std.specs.Prelude.{◌≡◌, ◌⊎◌, ℕ, zero, suc, ◌+◌, ◌-◌, ◌<◌, ◌≤◌, ◌^◌, Bool, if◌then◌else◌, List, [], ◌∷◌, ◌++◌, length, min, get_or, take, drop, reverse, slice_get, Option, Some, None}
+use Rattle.std.specs.Prelude.{◌≡◌, ℕ, zero, suc, ◌+◌, ◌-◌, ◌<◌, ◌≤◌, ◌^◌, List, [], ◌∷◌, ◌++◌, length, min, get_or, take, drop, reverse, slice_get, Some}
 use Rattle.std.proofs.Common.{refl, sym, ap, ◌∙◌, arith}
-use Rattle.std.specs.Map.{keys_of, values_of}
 use Rattle.std.specs.List.{sum_by}
-use Rattle.std.specs.Option.{unwrap_or}
 use Rattle.std.proofs.lemmas.List.{reverse-append, length-reverse, take_all, take_at, take_rest}
 use Rattle.std.proofs.lemmas.List.Sums.{sum_by-cons, sum_by_push, sum_by_more}
 use Rattle.keys.specs.Bytes.{Changes}
 use Rattle.keys.specs.Order.{IsRising}
-use Rattle.keys.specs.OrderedMap.{value_at}
-use Rattle.delta_chain.specs.Exchange.{exchanged_at, in_place_of, exchanged, exchanged_under}
-use Rattle.delta_chain.specs.Layers.{Layers, held_under, entries_under, AllRise}
+use Rattle.delta_chain.specs.Exchange.{exchanged}
+use Rattle.delta_chain.specs.Layers.{Layers, entries_under, AllRise}
 use Rattle.delta_chain.specs.Merging.{joined_changes, overlaid}
 use Rattle.delta_chain.specs.Counted.{IsCounted}
-use Rattle.delta_chain.specs.NewestRuns.{NamesKnown}
 use Rattle.delta_chain.proofs.Counts.{least_with_run, still_fewest, still_most, most_before}
 use Rattle.delta_chain.proofs.LazyLemmas.{reverse-oldest, reverse-newer}
-use Rattle.delta_chain.proofs.NewestRunLemmas.{still_known}
-use Rattle.delta_chain.proofs.Exchanging.{exchanged-run, held-run, counted_exchanged}
+use Rattle.delta_chain.proofs.Exchanging.{counted_exchanged}
 
 more_by : (named n more top sum all run : ℕ) → named ≡ min sum top → n ≡ run → more ≡ min (named + n) top → all ≡ sum + run → more ≡ min all top
 more_by named n more top sum all run e s t h = omega (arith, e, s, t, h)
@@ -46,36 +41,30 @@ module _ {V : Type 0} where
 
   -- ---- a run more, and one less
 
-  pub counted-push : (runs now : List (Changes V)) (run : Changes V) (base : List (List ℕ × V)) (n fewest left most more : ℕ) (newest noted : List ℕ) (number : ℕ) → now ≡ runs ++ run ∷ [] → IsRising run → n ≡ length run → left ≡ fewest - n
-      → more ≡ min (most + n) (2 ^ 64 - 1) → number ≡ length runs + 1 → NamesKnown noted number run → ((m : ℕ) → (get_or noted m 0 ≡ get_or newest m 0) ⊎ (get_or noted m 0 ≡ min number 255))
-      → IsCounted (Page runs base) fewest most newest → IsCounted (Page now base) left more noted
-  counted-push runs now run base n fewest left most more newest noted number i r e s t c a f h =
-      let long = length-reverse runs in
-      let count : suc (length (reverse runs)) ≡ number = omega (arith, long, c) in
+  pub counted-push : (runs now : List (Changes V)) (run : Changes V) (base : List (List ℕ × V)) (n fewest left most more : ℕ) → now ≡ runs ++ run ∷ [] → IsRising run → n ≡ length run → left ≡ fewest - n → more ≡ min (most + n) (2 ^ 64 - 1)
+      → IsCounted (Page runs base) fewest most → IsCounted (Page now base) left more
+  counted-push runs now run base n fewest left most more i r e s t h =
       rw (i, reverse-following runs run) (record {
         rising = (r, h.rising);
         entries = still_fewest n fewest left (entries_under (reverse runs) base) run h.entries e s;
         no_more = still_most n most more (2 ^ 64 - 1) (entries_under (reverse runs) base) run h.no_more e t;
-        known = (rw count a, still_known newest noted number (reverse runs) (omega (arith, count)) f h.known);
       })
 
   pub page-push : (runs now : List (Changes V)) (run : Changes V) (base : List (List ℕ × V)) → now ≡ runs ++ run ∷ [] → Page now base ≡ record { runs = run ∷ reverse runs; base = base }
   page-push runs now run base i = rw (i, reverse-following runs run) refl
 
-  pub counted-pop : (runs older : List (Changes V)) (run : Changes V) (base : List (List ℕ × V)) (n fewest left most more : ℕ) (newest : List ℕ) → runs ≡ older ++ run ∷ [] → n ≡ length run → left ≡ fewest - n → more ≡ min (most + n) (2 ^ 64 - 1)
-      → IsCounted (Page runs base) fewest most newest → IsCounted (Page older base) left more newest
-  counted-pop runs older run base n fewest left most more newest i e s t h =
+  pub counted-pop : (runs older : List (Changes V)) (run : Changes V) (base : List (List ℕ × V)) (n fewest left most more : ℕ) → runs ≡ older ++ run ∷ [] → n ≡ length run → left ≡ fewest - n → more ≡ min (most + n) (2 ^ 64 - 1)
+      → IsCounted (Page runs base) fewest most → IsCounted (Page older base) left more
+  counted-pop runs older run base n fewest left most more i e s t h =
       let is : reverse runs ≡ run ∷ reverse older = ap reverse i ∙ reverse-following older run in
       let rising = rw is at h.rising in
       let entries = rw is at h.entries in
       let no_more = rw is at h.no_more in
-      let known = rw is at h.known in
       let least = least_with_run (entries_under (reverse older) base) run in
       record {
         rising = rising.1;
         entries = omega (arith, entries, least);
         no_more = most_before n most more (2 ^ 64 - 1) (entries_under (reverse older) base) run no_more e t;
-        known = known.1;
       }
 
   -- ---- the oldest of them, and the others
@@ -128,46 +117,7 @@ module _ {V : Type 0} where
   pub said-all : (runs : List (Changes V)) (at : ℕ) (changes : Changes V) → length runs ≤ at → changes ≡ joined_changes (reverse (take at runs)) → changes ≡ joined_changes (reverse runs)
   said-all runs at changes l h = h ∙ ap (λ (m : List (Changes V)). joined_changes (reverse m)) (take_all at runs l)
 
-  -- ---- a cell exchanged in the newest run that names the key
+  -- ---- a cell exchanged
 
-  abbrev Base : List (List ℕ × V) → Layers V
-  Base base = record { runs = []; base = base }
-
-  -- in the newest one
-  pub cell-newest : (runs older : List (Changes V)) (run : Changes V) (at : ℕ) (k : List ℕ) (v now : V) → runs ≡ older ++ run ∷ [] → IsRising run → slice_get (keys_of run) at ≡ Some k
-      → ((o : Option V) → slice_get (values_of run) at ≡ Some o → now ≡ unwrap_or o v) → (base : List (List ℕ × V)) → unwrap_or (held_under k (reverse runs) base) v ≡ now
-  cell-newest runs older run at k v now i r h f base =
-      rw (i, reverse-following older run) (sym (held-run run at k (held_under k (reverse older) base) v now r h f))
-
-  pub page-newest : (runs older : List (Changes V)) (run now : Changes V) (at : ℕ) (k : List ℕ) (v : V) → runs ≡ older ++ run ∷ [] → IsRising run → slice_get (keys_of run) at ≡ Some k
-      → ((o : Option V) → slice_get (values_of run) at ≡ Some o → now ≡ exchanged_at run at (in_place_of o v)) → (base : List (List ℕ × V)) → exchanged_under k v (reverse runs) base ≡ Page (older ++ now ∷ []) base
-  page-newest runs older run now at k v i r h f base =
-      rw (i, reverse-following older run, reverse-following older now) (sym (exchanged-run run now (Page older base) at k v r h f))
-
-  -- below one that doesn't name the key
-  pub cell-older : (runs older : List (Changes V)) (run : Changes V) (k : List ℕ) (v now : V) (b : Bool) → runs ≡ older ++ run ∷ [] → value_at k run ≡ None
-      → ((base : List (List ℕ × V)) → unwrap_or (held_under k (reverse older) base) v ≡ (if b then now else unwrap_or (value_at k base) v))
-      → (base : List (List ℕ × V)) → unwrap_or (held_under k (reverse runs) base) v ≡ (if b then now else unwrap_or (value_at k base) v)
-  cell-older runs older run k v now b i h f base = rw (i, reverse-following older run, h) (f base)
-
-  pub page-older : (runs older after : List (Changes V)) (run : Changes V) (k : List ℕ) (v : V) (b : Bool) → runs ≡ older ++ run ∷ [] → value_at k run ≡ None
-      → ((base : List (List ℕ × V)) → exchanged_under k v (reverse older) base ≡ record { runs = reverse after; base = if b then base else (exchanged_under k v [] base).base })
-      → (base : List (List ℕ × V)) → exchanged_under k v (reverse runs) base ≡ record { runs = reverse (after ++ run ∷ []); base = if b then base else (exchanged_under k v [] base).base }
-  page-older runs older after run k v b i h f base =
-      rw (i, reverse-following older run, reverse-following after run, h)
-      (ap (λ (p : Layers V). record { runs = run ∷ p.runs; base = p.base }) (f base))
-
-  -- ---- in a chain, whose list of runs is what was left of it
-
-  pub page-run : (runs after items : List (Changes V)) (base : List (List ℕ × V)) (k : List ℕ) (v : V) → items ≡ after → exchanged_under k v (reverse runs) base ≡ Page after base → Page items base ≡ exchanged (Page runs base) k v
-  page-run runs after items base k v s h = rw s (sym h)
-
-  -- none of the runs names the key: in the base, or nowhere
-  pub page-base : (runs after items : List (Changes V)) (base now : List (List ℕ × V)) (k : List ℕ) (v : V) → items ≡ after → exchanged_under k v (reverse runs) base ≡ record { runs = reverse after; base = (exchanged_under k v [] base).base }
-      → Base now ≡ exchanged (Base base) k v → Page items now ≡ exchanged (Page runs base) k v
-  page-base runs after items base now k v s h e =
-      let is : now ≡ (exchanged_under k v [] base).base = ap (λ (p : Layers V). p.base) e in
-      rw (s, is) (sym h)
-
-  pub still_counted : (old now : Layers V) (k : List ℕ) (v : V) (fewest most : ℕ) (newest : List ℕ) → now ≡ exchanged old k v → IsCounted old fewest most newest → IsCounted now fewest most newest
-  still_counted old now k v fewest most newest e h = rw e (counted_exchanged old k v fewest most newest h)
+  pub still_counted : (old now : Layers V) (k : List ℕ) (v : V) (fewest most : ℕ) → now ≡ exchanged old k v → IsCounted old fewest most → IsCounted now fewest most
+  still_counted old now k v fewest most e h = rw e (counted_exchanged old k v fewest most h)

@@ -118,7 +118,7 @@ module _ {T : Type 0} where
   pub key_there : (es : List (List ℕ × T)) (at : ℕ) (k j : List ℕ) → slice_get (keys_of es) at ≡ Some j → order j k ≡ Equal → slice_get (keys_of es) at ≡ Some k
   key_there es at k j h l = h ∙ ap (λ (x : List ℕ). Some x) (same_key j k l)
 
-  with_pair-missing : (es : List (List ℕ × T)) (at : ℕ) (k : List ℕ) (v : T) → at ≤ length es → BelowBefore es at k → AboveFrom es at k → with_pair es k v ≡ insert es at (k, v)
+  pub with_pair-missing : (es : List (List ℕ × T)) (at : ℕ) (k : List ℕ) (v : T) → at ≤ length es → BelowBefore es at k → AboveFrom es at k → with_pair es k v ≡ insert es at (k, v)
   with_pair-missing [] zero k v w b a = refl
   with_pair-missing [] (suc at) k v w b a = absurd (omega arith)
   with_pair-missing (e ∷ es) zero k v w b a = rw (flipped_greater e.0 k (a 0 e (omega arith) (omega arith))) refl

@@ -2,9 +2,9 @@ pub mod Building
 pub mod Counted
 pub mod Exchange
 pub mod Kept
-pub mod Lazy
 pub mod Layers
+pub mod Lazy
 pub mod Lent
+pub mod Located
 pub mod Merging
-pub mod NewestRuns
 pub mod Packed

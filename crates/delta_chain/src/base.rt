@@ -1,6 +1,7 @@
 //! The base of a page: rising keys in one buffer, and a cell for each key.
 ghost use Rattle.std.specs.Prelude.{◌≡◌, ◌<◌, ◌≤◌, ◌∷◌, ◌++◌, [], true, length, slice_get, Some, None, IfOk, IfSome, MatchOption, OnOk, OnErr};
 ghost use Rattle.std.specs.Map.{keys_of, values_of};
+ghost use Rattle.std.specs.Option.{option_copied};
 ghost use Rattle.keys.specs.Order.{IsRising};
 ghost use Rattle.keys.specs.OrderedMap.{value_at};
 ghost use Rattle.delta_chain.specs.Building.{goes_last};
@@ -108,6 +109,18 @@ impl<V, A: Allocator + Copy> Base<V, A> {
             }
         }
         None
+    }
+
+    // The cell of `key`, if the base has the key.
+    pub(crate) fn get(&self, key: &[u8]) -> Option<&V>
+        ensures { option_copied result ≡ value_at key.now self.now }
+    {
+        // Only for the proof: the keys rise.
+        let _rising = self.len();
+        match self.place_near(usize::MAX, key) {
+            Some(at) => Some(self.cell(at)),
+            None => None,
+        }
     }
 
     // Whether `key` is above the last key, so that it may be appended.

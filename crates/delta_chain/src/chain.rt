@@ -1,16 +1,17 @@
 //! The state of a page: runs in front of a base, owned (`Chain`) or borrowed (`ChainRef`).
 ghost use Rattle.std.specs.Prelude.{◌≡◌, ◌<◌, ◌≤◌, ◌+◌, ◌-◌, ◌∷◌, [], false, List, length, min, take, drop, reverse, vec_len, vec_capacity, if◌then◌else◌, OnOk, OnErr, IfOk, IfErr, MatchOption};
 ghost use Rattle.std.specs.List.{sum_by};
-ghost use Rattle.std.specs.Option.{unwrap_or};
+ghost use Rattle.std.specs.Option.{option_copied, unwrap_or};
 ghost use Rattle.keys.specs.Bytes.{Bytes};
 ghost use Rattle.keys.specs.Order.{IsRising};
 ghost use Rattle.keys.specs.OrderedMap.{value_at};
 ghost use Rattle.delta_chain.specs.Exchange.{exchanged, exchanged_under};
+ghost use Rattle.delta_chain.specs.Located.{keys_of_runs};
 ghost use Rattle.delta_chain.specs.Layers.{Layers, holds, held_under, entries_of, depth_of, IsInOrder};
 
 use crate::base::Base;
+use crate::locators::{Locator, lent_changes, locate, remove_newest, with_newest};
 use crate::merging::{copied, lent_base, merged, with_run};
-use crate::newest_runs::NewestRuns;
 use crate::pairs::Pairs;
 use crate::run::Run;
 use keys::{Cell, Key, KeyRef};
@@ -25,20 +26,24 @@ pub struct Chain<V, A: Allocator> {
     // Oldest first in one block: a lookup reads contiguous memory, and a new run is appended.
     runs: Vec<Run<V, A>, A>,
     entries: EntryBounds,
-    newest_runs: NewestRuns,
+    // For each key that the runs contain, its newest change, in key order. `None` if there are very many runs.
+    list: Option<Vec<Locator, A>>,
 }
 
 impl<V, A: Allocator> Model for Chain<V, A> {
-    ghost use Rattle.std.specs.Prelude.{reverse};
+    ghost use Rattle.std.specs.Prelude.{reverse, IfSome};
     ghost use Rattle.delta_chain.specs.Layers.{Layers};
     ghost use Rattle.delta_chain.specs.Counted.{IsCounted};
+    ghost use Rattle.delta_chain.specs.Located.{keys_of_runs, AreNumbered, AreNewest};
 
     ghost Value = { Layers V };
 
     ghost view = { λ c. record { runs = reverse c.runs.items; base = c.base } };
 
     ghost invariant = { λ c. IsCounted (record { runs = reverse c.runs.items; base = c.base })
-        c.entries.fewest c.entries.most c.newest_runs.numbers };
+        c.entries.fewest c.entries.most
+        × AreNumbered (keys_of_runs c.runs.items)
+        × IfSome c.list (λ list. AreNewest (keys_of_runs c.runs.items) list.items) };
 }
 
 /// Bounds on the number of entries of a page, known without reading them.
@@ -144,12 +149,12 @@ impl<V, A: Allocator + Copy> Chain<V, A> {
             most: count,
         };
         let runs = Vec::new(base.alloc());
-        let newest_runs = NewestRuns::none();
+        let locators = Vec::new(base.alloc());
         Chain {
             base,
             runs,
             entries,
-            newest_runs,
+            list: Some(locators),
         }
     }
 
@@ -243,15 +248,15 @@ impl<V, A: Allocator + Copy> Chain<V, A> {
         }
     }
 
-    /// Borrows the page without the newest runs whose fingerprints show that they cannot contain `key`. The result
-    /// holds the same cell at `key`.
-    pub fn runs_for(&self, key: &[u8]) -> ChainRef<'_, V, A>
-        ensures { holds result key.now ≡ holds self.now key.now }
+    /// Returns the cell that the page holds at `key`, if it holds one: that of the newest run that contains the key,
+    /// else that of the base.
+    pub fn get(&self, key: &[u8]) -> Option<&V>
+        ensures { option_copied result ≡ holds self.now key.now }
     {
-        let count = self.newest_runs.reach(key, self.runs.len());
-        ChainRef {
-            runs: &self.runs[..count],
-            base: &self.base,
+        let key = KeyRef::new(key);
+        match locate(&self.list, &self.runs, &key) {
+            Some(locator) => locator.change(&self.runs),
+            None => self.base.get(key.as_bytes()),
         }
     }
 
@@ -268,13 +273,21 @@ impl<V, A: Allocator + Copy> Chain<V, A> {
         ensures entries { IfOk result (λ pairs. pairs ≡ entries_of self.now) }
         ensures rising { IfOk result (λ pairs. IsRising pairs) }
     {
-        self.lent().pairs(alloc)
+        let Some(locators) = &self.list else {
+            return self.lent().pairs(alloc);
+        };
+        let under = lent_base(alloc, &self.base)?;
+        if self.runs.is_empty() {
+            return Ok(under);
+        }
+        let changes = lent_changes(alloc, locators, &self.runs)?;
+        with_run(alloc, &under, &changes)
     }
 }
 
 impl<V: Drop, A: Allocator + Copy> Chain<V, A> {
     /// Adds `run` as the newest one. If allocation fails, the chain is unchanged and the run is returned with the
-    /// error.
+    /// error. A run of 2^32 changes counts as a failed allocation.
     pub fn prepend(&mut self, run: Run<V, A>) -> Result<(), (AllocError, Run<V, A>)>
         ensures ok { OnOk result (self.new ≡ record self.old { runs = run ∷ self.old.runs }) }
         ensures err { OnErr result (self.new ≡ self.old) }
@@ -283,9 +296,11 @@ impl<V: Drop, A: Allocator + Copy> Chain<V, A> {
         if let Err(refused) = make_room(&mut self.runs) {
             return Err((refused, run));
         }
+        match with_newest(self.base.alloc(), &self.list, &self.runs, &run) {
+            Ok(list) => self.list = list,
+            Err(refused) => return Err((refused, run)),
+        }
         self.entries = self.entries.with_changes(run.len());
-        let number = self.runs.len() + 1;
-        self.newest_runs.note(&run, number);
         self.runs.push_reserved(run);
         Ok(())
     }
@@ -296,6 +311,7 @@ impl<V: Drop, A: Allocator + Copy> Chain<V, A> {
             (λ run. self.old ≡ record self.new { runs = run ∷ self.new.runs }) }
     {
         let run = self.runs.pop()?;
+        remove_newest(&mut self.list, &self.runs, &run);
         let added = run.len();
         self.entries = self.entries.with_changes(added);
         Some(run)
@@ -308,12 +324,14 @@ impl<V: Drop, A: Allocator + Copy> Chain<V, A> {
         ensures cell { cell.new ≡ unwrap_or (holds self.old key.now) cell.old }
         ensures page { self.new ≡ exchanged self.old key.now cell.old }
     {
-        if swap_in_runs(&mut self.runs, key, cell) {
-            return;
-        }
-        if let Some(at) = self.base.place_near(*guess, key.as_bytes()) {
-            *guess = at.saturating_add(1);
-            self.base.swap_cell(at, cell);
+        match locate(&self.list, &self.runs, key) {
+            Some(locator) => locator.swap_cell(&mut self.runs, cell),
+            None => {
+                if let Some(at) = self.base.place_near(*guess, key.as_bytes()) {
+                    *guess = at.saturating_add(1);
+                    self.base.swap_cell(at, cell);
+                }
+            }
         }
     }
 
@@ -362,37 +380,4 @@ fn make_room<V: Drop, A: Allocator + Copy>(runs: &mut Vec<Run<V, A>, A>) -> Resu
         *runs = longer;
     }
     Ok(())
-}
-
-// Swaps `cell` with the cell of `key` in the newest run that contains the key, unless that run deletes it. Returns
-// whether a run contains the key. The runs are given oldest first.
-fn swap_in_runs<V: Drop, A: Allocator + Copy>(
-    runs: &mut [Run<V, A>],
-    key: &KeyRef<'_>,
-    cell: &mut V,
-) -> bool
-    ensures cell { (base : List (Bytes × V)) →
-        unwrap_or (held_under key.now (reverse runs.old) base) cell.old ≡
-        (if result then cell.new else unwrap_or (value_at key.now base) cell.old) }
-    ensures kept { result ≡ false → cell.new ≡ cell.old }
-    ensures count { length runs.new ≡ length runs.old }
-    ensures page { (base : List (Bytes × V)) →
-        exchanged_under key.now cell.old (reverse runs.old) base ≡
-        record {
-          runs = reverse runs.new;
-          base = if result then base else (exchanged_under key.now cell.old [] base).base;
-        } }
-{
-    let Some((newest, older)) = runs.split_last_mut() else {
-        return false;
-    };
-    // Only for the proof: the keys of the run rise.
-    let _rising = newest.len();
-    match newest.place_of(key) {
-        Some(at) => {
-            newest.swap_cell(at, cell);
-            true
-        }
-        None => swap_in_runs(older, key, cell),
-    }
 }

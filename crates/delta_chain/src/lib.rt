@@ -11,8 +11,8 @@ mod entries;
 mod key_list;
 mod late;
 pub mod laws;
+mod locators;
 mod merging;
-mod newest_runs;
 mod pairs;
 mod run;
 

@@ -10,4 +10,4 @@ mod RowLemmas
 pub mod RunLemmas
 mod SettingsRows
 pub mod Weaving
-mod WordLemmas
+pub mod WordLemmas

@@ -2,7 +2,6 @@ pub mod Bytes
 pub mod Cells
 pub mod CommandKey
 pub mod Finding
-pub mod Fingerprint
 pub mod Footprint
 pub mod Kept
 pub mod Limits

@@ -65,6 +65,16 @@ impl<'a> KeyRef<'a> {
         self.bytes
     }
 
+    /// Returns the first eight bytes as a big-endian number, in which missing bytes count as zeros. If the words of two
+    /// keys differ, the keys compare as their words do.
+    #[inline]
+    pub fn word(&self) -> u64
+        ensures word { result ≡ first_word self.now }
+        ensures bytes { AreBytes self.now }
+    {
+        self.word
+    }
+
     /// Compares this key to `other` in the order of keys.
     #[inline]
     pub fn compare(&self, other: &KeyRef<'_>) -> Ordering

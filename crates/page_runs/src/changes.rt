@@ -10,7 +10,6 @@ ghost use Rattle.page_runs.specs.Replay.{map_by_now};
 use crate::changes_from::ChangesFrom;
 use delta_chain::{Chain, Run};
 use keys::{Command, Key, Value};
-use page_search::{Probes, find_lent};
 use std::alloc::{AllocError, Global};
 use std::collections::BTreeMap;
 use std::marker::Model;
@@ -98,8 +97,7 @@ impl Changes {
                 }
             }
         }
-        let bytes = key.as_bytes();
-        find_lent(page.runs_for(bytes), bytes, &mut Probes::new())
+        page.get(key.as_bytes())
     }
 
     pub(crate) fn from_key<'a>(&'a self, low: &'a Key<Global>) -> ChangesFrom<'a>

@@ -10,4 +10,4 @@ mod side;
 
 pub use crate::nearest::{above, floor};
 pub use crate::probes::Probes;
-pub use crate::search::{find, find_lent, lower, place};
+pub use crate::search::{find, lower, place};

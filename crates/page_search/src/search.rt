@@ -46,8 +46,8 @@ pub fn find<'a, V, A: Allocator + Copy>(
     find_lent(chain.lent(), key, probes)
 }
 
-/// Like `find`, in a borrowed part of a page.
-pub fn find_lent<'a, V, A: Allocator + Copy>(
+// `find` in a borrowed page.
+fn find_lent<'a, V, A: Allocator + Copy>(
     chain: ChainRef<'a, V, A>,
     key: &[u8],
     probes: &mut Probes,

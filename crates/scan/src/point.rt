@@ -6,7 +6,6 @@ ghost use Rattle.delta_chain.specs.Layers.{entries_of};
 
 use delta_chain::Chain;
 use keys::Value;
-use page_search::{Probes, find_lent};
 use std::alloc::Global;
 
 /// Returns the value that a leaf has at `key`, if it has one, borrowed from the leaf. Does not allocate.
@@ -17,5 +16,5 @@ pub fn value_in<'a>(
     ensures { option_copied result ≡ value_at key.now (entries_of chain.now) }
 {
     let _in_order = chain.depth();
-    find_lent(chain.runs_for(key), key, &mut Probes::new())
+    chain.get(key)
 }

@@ -10,10 +10,12 @@ at_most n a b limit e h i = omega arith
 pub invariant_of-self : goal.invariant_of-self
 invariant_of-self g c =
     let fewest = rw (← c.self.view_is) at c.requires.fewest in
-    let most = rw (← c.self.view_is) at c.requires.most in
-    record {
-      rising = c.self.invariant.rising;
-      entries = at_least c.max.result c.self.inside.entries.fewest c.args.known.fewest _ c.max.ensures c.self.invariant.entries fewest;
-      no_more = at_most c.min.result c.self.inside.entries.most c.args.known.most _ c.min.ensures c.self.invariant.no_more most;
-      known = c.self.invariant.known;
-    }
+    let most = rw (← c.self.view_is) at c.requires.most in (
+      record {
+        rising = c.self.invariant.0.rising;
+        entries = at_least c.max.result c.self.inside.entries.fewest c.args.known.fewest _ c.max.ensures c.self.invariant.0.entries fewest;
+        no_more = at_most c.min.result c.self.inside.entries.most c.args.known.most _ c.min.ensures c.self.invariant.0.no_more most;
+      },
+      c.self.invariant.1,
+      c.self.invariant.2,
+    )

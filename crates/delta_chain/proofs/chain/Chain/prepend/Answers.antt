@@ -1,14 +1,26 @@
-use Rattle.std.proofs.Common.{ℕ, ◌+◌, List, length, ap, ◌∙◌}
-use Rattle.keys.specs.Bytes.{Changes}
+use Rattle.std.proofs.Common.{◌≡◌, ◌++◌, ◌∷◌, []}
+use Rattle.delta_chain.proofs.LocatorLemmas.{keys_push}
 use Rattle.delta_chain.proofs.RunList.{counted-push, page-push}
 use Rattle.delta_chain.proofs.chain.Chain.prepend.Goals as goal
 
+pub invariant_of-self : goal.invariant_of-self
+invariant_of-self g c = rw c.make_room.ensures.kept c.self.invariant
+
+pub with_newest-requires-clause-list : goal.with_newest-requires-clause-list
+with_newest-requires-clause-list g c = rw (c.deref.ensures.value, c.make_room.ensures.kept) c.self.invariant.2
+
+pub invariant_of-self-in-Err-with_newest : goal.invariant_of-self-in-Err-with_newest
+invariant_of-self-in-Err-with_newest g c = rw c.make_room.ensures.kept c.self.invariant
+
 pub invariant_of-self-2 : goal.invariant_of-self-2
 invariant_of-self-2 g c =
-    counted-push c.self.inside.runs.items c.push_reserved.new.self.items c.args.run c.self.inside.base c.len.result c.self.inside.entries.fewest c.with_changes-self-inside.result.fewest c.self.inside.entries.most c.with_changes-self-inside.result.most
-    c.self.inside.newest_runs.numbers c.note.new.self.numbers (c.len-number.result + 1)
-    (rw (← c.make_room.ensures.kept) c.push_reserved.ensures.items) c.len.ensures.rising c.len.ensures.count c.with_changes-self-inside.ensures.fewest c.with_changes-self-inside.ensures.most
-    (ap (λ (n : ℕ). n + 1) (c.len-number.ensures ∙ c.make_room.new.runs.ok.0 ∙ ap (λ (rs : List (Changes g.row.V.Denot)). length rs) c.make_room.ensures.kept)) c.note.ensures.named c.note.ensures.kept c.self.invariant
+    let added : c.push_reserved.new.self.items ≡ c.self.inside.runs.items ++ c.args.run ∷ [] = rw (← c.make_room.ensures.kept) c.push_reserved.ensures.items in
+    let keys = keys_push c.self.inside.runs.items c.push_reserved.new.self.items c.args.run added in (
+      counted-push c.self.inside.runs.items c.push_reserved.new.self.items c.args.run c.self.inside.base c.len.result c.self.inside.entries.fewest c.with_changes-self-inside.result.fewest c.self.inside.entries.most c.with_changes-self-inside.result.most
+          added c.len.ensures.rising c.len.ensures.count c.with_changes-self-inside.ensures.fewest c.with_changes-self-inside.ensures.most c.self.invariant.0,
+      rw keys (rw (c.deref.ensures.value, c.make_room.ensures.kept) at c.in-Ok.ensures.numbered),
+      rw keys (rw (c.deref.ensures.value, c.make_room.ensures.kept) at c.in-Ok.ensures.list),
+    )
 
 pub returns-clause-ok : goal.returns-clause-ok
 returns-clause-ok g c =
