@@ -4,6 +4,7 @@ pub mod LimitLemmas
 pub mod Literals
 pub mod MapLemmas
 pub mod NarrowedLemmas
+pub mod PlacedPieces
 pub mod RangeLemmas
 mod Rows
 mod RowLemmas

@@ -6,7 +6,9 @@ use Rattle.keys.specs.declared.command.Reply.{Reply}
 use Rattle.keys.specs.declared.command.Reply.TheVariants.{Rows}
 use Rattle.keys.specs.declared.piece.Piece.{Piece}
 use Rattle.keys.specs.declared.pieces.EmptyScan.{EmptyScan}
+use Rattle.keys.specs.PlacedPieces.{by_place}
 use Rattle.keys.specs.Woven.{piece_of_empty_scan, woven, StandWithin}
+use Rattle.keys.proofs.PlacedPieces.{length-by_place}
 
 module _ {A : Type 0} where
   -- the list with one piece more in it
@@ -91,5 +93,5 @@ module _ {A : Type 0} where
     pub rowless_within : StandWithin (length ps) rs → StandWithin (length ps) now
     rowless_within h = rw more (StandWithin-push (length ps) rs r h (let all = length-woven ps rs in omega (arith, all, count)))
 
-  pub counted : (first : Option (Piece A)) (rest : List (Piece A)) (rs : List EmptyScan) (all : List (Piece A)) (n : ℕ) → woven (option_to_list first ++ rest) rs ≡ all → n ≡ length all → n ≡ length (woven (option_to_list first ++ rest) rs)
-  counted first rest rs all n e h = h ∙ sym (ap length e)
+  pub counted : (first : Option (Piece A)) (rest : List (Piece A)) (rs : List EmptyScan) (all : List (Piece A)) (n : ℕ) → by_place (woven (option_to_list first ++ rest) rs) ≡ all → n ≡ length all → n ≡ length (woven (option_to_list first ++ rest) rs)
+  counted first rest rs all n e h = h ∙ sym (ap length e) ∙ length-by_place (woven (option_to_list first ++ rest) rs)

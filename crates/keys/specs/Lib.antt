@@ -10,6 +10,7 @@ pub mod LogSize
 pub mod Narrowed
 pub mod Order
 pub mod OrderedMap
+pub mod PlacedPieces
 pub mod Places
 pub mod Range
 pub mod Results

@@ -1,6 +1,7 @@
 //! The answers of one page to its commands.
-ghost use Rattle.std.specs.Prelude.{◌≡◌, ◌∷◌, ◌++◌, [], true, length, min, IfOk, OnOk, OnErr};
+ghost use Rattle.std.specs.Prelude.{◌≡◌, ◌++◌, [], true, length, min, IfOk, OnOk, OnErr};
 ghost use Rattle.std.specs.Option.{option_to_list};
+ghost use Rattle.keys.specs.PlacedPieces.{by_place, with_piece};
 ghost use Rattle.keys.specs.Woven.{woven};
 ghost use Rattle.keys.specs.declared.command.Reply.TheVariants.{Rows};
 
@@ -23,9 +24,9 @@ pub struct EmptyScan {
     pub before: u32,
 }
 
-/// The answers of one page to its commands, which contracts see as one list of pieces. The first piece is stored
-/// outside the list, so that the answer to a single command allocates no list. Answers of scans that found no rows have
-/// a compact list of their own.
+/// The answers of one page to its commands. Pieces may be added in any order. Contracts see them as one list in the
+/// order of their places. The first piece is stored outside the list, so that the answer to a single command allocates
+/// no list. Answers of scans that found no rows have a compact list of their own.
 #[derive(Drop)]
 pub struct Pieces<A: Allocator> {
     first: Option<Piece<A>>,
@@ -36,12 +37,13 @@ pub struct Pieces<A: Allocator> {
 impl<A: Allocator> Model for Pieces<A> {
     ghost use Rattle.std.specs.Prelude.{List, ◌++◌, length};
     ghost use Rattle.std.specs.Option.{option_to_list};
+    ghost use Rattle.keys.specs.PlacedPieces.{by_place};
     ghost use Rattle.keys.specs.Woven.{woven, StandWithin};
     ghost use Rattle.keys.specs.declared.piece.Piece.{Piece};
 
     ghost Value = { List (Piece A) };
 
-    ghost view = { λ p. woven (option_to_list p.first ++ p.rest.items) p.empty_scans.items };
+    ghost view = { λ p. by_place (woven (option_to_list p.first ++ p.rest.items) p.empty_scans.items) };
 
     ghost invariant = { λ p. StandWithin
         (length (option_to_list p.first ++ p.rest.items)) p.empty_scans.items };
@@ -73,9 +75,10 @@ impl<A: Allocator + Copy> Pieces<A> {
         })
     }
 
-    /// Appends `piece`. Allocates only if no room is reserved. After an `Err` the list is unchanged.
+    /// Adds `piece`, after the pieces whose places are at most its own. Allocates only if no room is reserved. After an
+    /// `Err` the list is unchanged.
     pub fn push(&mut self, piece: Piece<A>) -> Result<(), AllocError>
-        ensures ok { OnOk result (self.new ≡ self.old ++ piece ∷ []) }
+        ensures ok { OnOk result (self.new ≡ with_piece self.old piece) }
         ensures err { OnErr result (self.new ≡ self.old) }
     {
         if is_without_rows(&piece.reply) {
@@ -99,7 +102,7 @@ impl<A: Allocator + Copy> Pieces<A> {
     }
 
     fn push_whole(&mut self, piece: Piece<A>) -> Result<(), AllocError>
-        ensures ok { OnOk result (self.new ≡ self.old ++ piece ∷ []) }
+        ensures ok { OnOk result (self.new ≡ with_piece self.old piece) }
         ensures err { OnErr result (self.new ≡ self.old) }
     {
         if self.first.is_none() && self.rest.is_empty() {
@@ -122,7 +125,8 @@ impl<A: Allocator + Copy> Pieces<A> {
     /// Splits into the first piece that is not a scan without rows (if there is one), the other such pieces, and the
     /// scans without rows.
     pub fn into_parts(self) -> (Option<Piece<A>>, Vec<Piece<A>, A>, Vec<EmptyScan, A>)
-        ensures { self ≡ woven (option_to_list result.0 ++ result.1.items) result.2.items }
+        ensures { self ≡ by_place
+            (woven (option_to_list result.0 ++ result.1.items) result.2.items) }
     {
         let Pieces {
             first,

@@ -128,7 +128,7 @@ module _ {A : Type 0} where
   touches_by false m x c q h e = touches_none_else m c q h ∙ sym (touches_none_else x c q h)
 
   -- if they have the same at its one key, it answers the same
-  reply_same : (is_own : List ℕ → Bool) (m x : Pairs) (c : Command A) → AgreeOn is_own m x → is_on_one is_own c ≡ true → reply_to m c ≡ reply_to x c
+  pub reply_same : (is_own : List ℕ → Bool) (m x : Pairs) (c : Command A) → AgreeOn is_own m x → is_on_one is_own c ≡ true → reply_to m c ≡ reply_to x c
   reply_same is_own m x (Get k) a h = let e : value_at k m ≡ value_at k x = a k h in rw e refl
   reply_same is_own m x (Put k v) a h = let e : value_at k m ≡ value_at k x = a k h in rw e refl
   reply_same is_own m x (Add k v) a h = let e : value_at k m ≡ value_at k x = a k h in rw e refl
@@ -174,10 +174,10 @@ module _ {A : Type 0} where
 
   module _ (is_own : List ℕ → Bool) (is_taken : Command A → Bool) where
     -- the maps agree after a command that both get, and after one off these keys that one of them gets
-    agree_taken : (m x : Pairs) (c : Command A) → IsRising m → IsRising x → AgreeOn is_own m x → AgreeOn is_own (map_after m c) (map_after x c)
+    pub agree_taken : (m x : Pairs) (c : Command A) → IsRising m → IsRising x → AgreeOn is_own m x → AgreeOn is_own (map_after m c) (map_after x c)
     agree_taken m x c r s a = λ q h. after_by (is_on_key c q) m x c q refl r s (a q h)
 
-    agree_left : (m x : Pairs) (c : Command A) → IsRising m → AgreeOn is_own m x → IsOff is_own c → AgreeOn is_own (map_after m c) x
+    pub agree_left : (m x : Pairs) (c : Command A) → IsRising m → AgreeOn is_own m x → IsOff is_own c → AgreeOn is_own (map_after m c) x
     agree_left m x c r a off = λ q h. value_at-elsewhere m c q r (off q h) ∙ a q h
 
     replies_by : (b : Bool) (m x : Pairs) (c : Command A) (cs : List (Command A)) → TakesAll is_own is_taken → is_taken c ≡ b → IsRising m → IsRising x → AgreeOn is_own m x

@@ -1,5 +1,5 @@
 -- The output for a leaf in memory: its run and its replies are those of its entries.
-use Rattle.std.specs.Prelude.{◌≡◌, ℕ, Bool, List}
+use Rattle.std.specs.Prelude.{◌≡◌, Bool, List}
 use Rattle.std.proofs.Common.{sym, ap, ◌∙◌}
 use Rattle.std.specs.declared.alloc.Global.{Global}
 use Rattle.keys.specs.Bytes.{Bytes, Pairs, Changes}
@@ -48,18 +48,18 @@ module _ (s : Settings) (batch : List (Command Global)) (route : Route) (low : B
       ∙ ap (λ (b : Bool). Made route low (after_run s (seen c) run) (class_after s (seen c) run) b pieces) replaced
 
   -- with its run and its replies, which were had of the chain in memory
-  pub made_in_memory : (job : PageOfKind) (whole : Layers Bytes) (places : List ℕ) (run : Changes Bytes) (pieces : List (Piece Global))
-      → job ≡ Leaf (record { low = low; layers = seen c }) → whole ≡ c.chain → places ≡ route.places
-      → run ≡ net_run (entries_of whole) (commands_at batch places) → pieces ≡ pieces_of places (replies_to (entries_of whole) (commands_at batch places))
+  pub made_in_memory : (job : PageOfKind) (whole : Layers Bytes) (run : Changes Bytes) (pieces : List (Piece Global))
+      → job ≡ Leaf (record { low = low; layers = seen c }) → whole ≡ c.chain
+      → run ≡ net_run (entries_of whole) (commands_at batch route.places) → pieces ≡ pieces_of route.places (replies_to (entries_of whole) (commands_at batch route.places))
       → seen after ≡ after_run s (seen c) run → leaf_class_now way_back ≡ class_after s (seen c) run → is_leaf_replaced_now way_back ≡ is_replaced s (seen c) run
       → (leaf_updated (LeafInMemory low after) way_back route pieces).made ≡ leaf_made s batch (record { page = job; route = route })
-  made_in_memory job whole places run pieces is memory at ran said page class replaced =
+  made_in_memory job whole run pieces is memory ran said page class replaced =
       let same : entries_of whole ≡ entries_of (seen c) = ap (λ (p : Layers Bytes). entries_of p) memory ∙ sym (entries-seen c) in
       made_by run pieces page class replaced
       ∙ ap (λ (r : Changes Bytes). After r pieces)
-      (ran ∙ ap (λ (ps : List ℕ). net_run (entries_of whole) (commands_at batch ps)) at ∙ ap (λ (es : Pairs Bytes). net_run es (commands_at batch route.places)) same)
+      (ran ∙ ap (λ (es : Pairs Bytes). net_run es (commands_at batch route.places)) same)
       ∙ ap (λ (ps : List (Piece Global)). After Run ps)
-      (said ∙ ap (λ (ps : List ℕ). pieces_of ps (replies_to (entries_of whole) (commands_at batch ps))) at ∙ ap (λ (es : Pairs Bytes). pieces_of route.places (replies_to es (commands_at batch route.places))) same)
+      (said ∙ ap (λ (es : Pairs Bytes). pieces_of route.places (replies_to es (commands_at batch route.places))) same)
       ∙ sym (ap (λ (p : PageOfKind). leaf_made s batch (record { page = p; route = route })) is)
 
 -- properties of a leaf's output hold for the output of the job

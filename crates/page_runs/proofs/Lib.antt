@@ -4,6 +4,7 @@ pub mod ApartLemmas
 mod Counts
 pub mod EndedBatch
 pub mod IdleBatch
+mod KeyOrder
 mod LeafAfter
 mod LeafMade
 mod NamedRows
@@ -11,6 +12,7 @@ pub mod NetLemmas
 mod Overlays
 pub mod PageParts
 mod PageRows
+mod PointsByKey
 pub mod ReadLemmas
 mod Replays
 mod Rows

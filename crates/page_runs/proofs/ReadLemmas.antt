@@ -55,11 +55,10 @@ module _ {A : Type 0} where
     one_looks h = sym (ap (λ (b : Bool). b && list_all is_read_only (commands_at batch (drop (i + 1) places))) (sym here ∙ h)) ∙ sym (looks_from batch places i place next) ∙ so_far
 
 -- the replies of commands on the chain in memory of a leaf in the table are the answers of the route's page
-pub late_answers : (t : TreeInMemory) (batch : List (Command Global)) (r : Route) (pid : ℕ) (page : PageOfKind) (low : Bytes) (leaf : Lazy Bytes) (chain : Layers Bytes) (places : List ℕ) (pieces : List (Piece Global))
-    → pid ≡ r.pid → page_of t.table pid ≡ Some page → page ≡ Leaf (record { low = low; layers = seen leaf }) → chain ≡ leaf.chain → places ≡ r.places
-    → pieces ≡ pieces_of places (replies_to (entries_of chain) (commands_at batch places)) → pieces ≡ route_answers t batch r
-late_answers t batch r pid page low leaf chain places pieces same home is memory at made =
+pub late_answers : (t : TreeInMemory) (batch : List (Command Global)) (r : Route) (pid : ℕ) (page : PageOfKind) (low : Bytes) (leaf : Lazy Bytes) (chain : Layers Bytes) (pieces : List (Piece Global))
+    → pid ≡ r.pid → page_of t.table pid ≡ Some page → page ≡ Leaf (record { low = low; layers = seen leaf }) → chain ≡ leaf.chain
+    → pieces ≡ pieces_of r.places (replies_to (entries_of chain) (commands_at batch r.places)) → pieces ≡ route_answers t batch r
+late_answers t batch r pid page low leaf chain pieces same home is memory made =
     made
-    ∙ ap (λ (ps : List ℕ). pieces_of ps (replies_to (entries_of chain) (commands_at batch ps))) at
     ∙ ap (λ (es : Pairs). pieces_of r.places (replies_to es (commands_at batch r.places))) (ap (λ (p : Layers Bytes). entries_of p) memory ∙ sym (entries-seen leaf))
     ∙ sym (ap (λ (o : Option PageOfKind). answers_at batch o r) (ap (λ (n : ℕ). page_of t.table n) (sym same) ∙ home ∙ ap (λ (q : PageOfKind). Some q) is))

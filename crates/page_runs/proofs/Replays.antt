@@ -4,6 +4,7 @@ use Rattle.std.proofs.Common.{refl, sym, ap, ◌∙◌, append_assoc, get_or}
 use Rattle.std.proofs.lemmas.Option.{slice_get-get_or}
 use Rattle.std.specs.declared.alloc.Global.{Global}
 use Rattle.keys.specs.Order.{IsRising}
+use Rattle.keys.specs.PlacedPieces.{with_piece, with_each}
 use Rattle.keys.specs.Step.{reply_to, map_after, map_after_all, replies_to}
 use Rattle.keys.proofs.RunLemmas.{map_after_all-append}
 use Rattle.keys.specs.declared.command.Command.{Command}
@@ -52,10 +53,9 @@ module _ (m : Pairs) (rising : IsRising m) (cs : List (Command Global)) (c : Com
 
 -- ---- the pieces
 
-pub pieces_step : (batch : List (Command Global)) (places : List ℕ) (i p : ℕ) (c : Command Global) (before : Pairs) (pieces all : List (Piece Global)) → slice_get places i ≡ Some p → slice_get batch p ≡ Some c → pieces ++ pieces_of (drop i places) (replies_to before (commands_at batch (drop i places))) ≡ all → (pieces ++ record { place = p; reply = reply_to before c } ∷ []) ++ pieces_of (drop (suc i) places) (replies_to (map_after before c) (commands_at batch (drop (suc i) places))) ≡ all
+pub pieces_step : (batch : List (Command Global)) (places : List ℕ) (i p : ℕ) (c : Command Global) (before : Pairs) (pieces all : List (Piece Global)) → slice_get places i ≡ Some p → slice_get batch p ≡ Some c → with_each pieces (pieces_of (drop i places) (replies_to before (commands_at batch (drop i places)))) ≡ all → with_each (with_piece pieces (record { place = p; reply = reply_to before c })) (pieces_of (drop (suc i) places) (replies_to (map_after before c) (commands_at batch (drop (suc i) places)))) ≡ all
 pieces_step batch [] i p c before pieces all h k t = absurd (cc)
 pieces_step batch (q ∷ qs) zero p c before pieces all h k t =
     let s : q ≡ p = cc in
-    let whole : pieces ++ (record { place = p; reply = reply_to before c } ∷ pieces_of qs (replies_to (map_after before c) (commands_at batch qs))) ≡ all = rw (s, k) at t in
-    append_assoc pieces (record { place = p; reply = reply_to before c } ∷ []) (pieces_of qs (replies_to (map_after before c) (commands_at batch qs))) ∙ whole
+    rw (s, k) at t
 pieces_step batch (q ∷ qs) (suc i) p c before pieces all h k t = pieces_step batch qs i p c before pieces all h k t

@@ -9,7 +9,7 @@ ghost use Rattle.page_runs.specs.Replay.{map_by_now};
 
 use crate::changes_from::ChangesFrom;
 use delta_chain::{Chain, Run};
-use keys::{Command, Key, Value};
+use keys::{Key, Value};
 use std::alloc::{AllocError, Global};
 use std::collections::BTreeMap;
 use std::marker::Model;
@@ -56,16 +56,12 @@ impl Model for Changes {
 }
 
 impl Changes {
-    /// Returns no changes, for the commands at these places. `writes` of them may change a key.
-    pub(crate) fn for_commands(
-        alloc: Global,
-        commands: &[Command<Global>],
-        places: &[usize],
-        writes: usize,
-    ) -> Self
+    /// Returns no changes. `writes` is the number of commands that may change a key, and `are_sorted` tells whether the
+    /// commands are on one key each and in the order of their keys. Both affect only the representation.
+    pub(crate) fn for_commands(alloc: Global, writes: usize, are_sorted: bool) -> Self
         ensures { result ≡ [] }
     {
-        let kept = if writes <= FEW || do_rise(commands, places) {
+        let kept = if writes <= FEW || are_sorted {
             KeptChanges::Few(Run::empty(alloc))
         } else {
             KeptChanges::Many(BTreeMap::new(alloc))
@@ -188,24 +184,4 @@ fn run_of(alloc: Global, map: ChangeMap) -> Result<LeafRun, AllocError>
         run.push_next(key, change)?;
     }
     Ok(run)
-}
-
-// Whether the keys of these commands rise strictly and none is a wipe, whose keys may be many and anywhere. Affects
-// only the representation of the changes.
-fn do_rise(commands: &[Command<Global>], places: &[usize]) -> bool {
-    for at in 1..places.len() {
-        match (commands.get(places[at - 1]), commands.get(places[at])) {
-            (Some(one), Some(next)) if does_rise(one, next) => {}
-            _ => return false,
-        }
-    }
-    true
-}
-
-// Whether the key of `next` is above that of `one`, and `next` is no wipe.
-fn does_rise(one: &Command<Global>, next: &Command<Global>) -> bool {
-    match next {
-        Command::Wipe(_, _) => false,
-        _ => one.key().cmp(next.key()).is_lt(),
-    }
 }

@@ -7,7 +7,7 @@ ghost use Rattle.page_runs.specs.LeafWork.{IsWorkedLeaf, leaf_held_of, leaf_upda
 
 use crate::class::Class;
 use crate::leaf_after::{LeafWayBack, put_leaf_run};
-use crate::replay::replay;
+use crate::replay::replay_run;
 use crew::{Turn, Work};
 use index_page::{Page, PageInMemory};
 use keys::{Command, Pid, Pieces, Settings};
@@ -144,11 +144,11 @@ impl<'a> Work for LeafWork<'a> {
     fn work(&self, job: LeafJob) -> Turn<LeafJob, LeafDone> {
         let LeafJob { page, page_run } = job;
         let (low, chain) = page.into_leaf();
-        let Ok((run, pieces, bounds)) = replay(
+        let Ok((run, pieces, bounds)) = replay_run(
             self.alloc,
             self.commands,
             chain.whole(),
-            page_run.places(),
+            &page_run,
         ) else {
             return Turn::Back(LeafJob {
                 page: Page::lazy_leaf(low, chain),

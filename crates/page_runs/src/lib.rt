@@ -12,6 +12,7 @@ mod leaf_after;
 mod leaf_work;
 mod page_after;
 mod page_rows;
+mod places;
 mod read_work;
 mod replay;
 mod term_work;

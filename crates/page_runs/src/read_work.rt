@@ -5,7 +5,7 @@ ghost use Rattle.std.specs.Option.{option_to_list};
 ghost use Rattle.page_runs.specs.Reads.{is_read_only, is_only_read};
 ghost use Rattle.page_runs.specs.Replies.{commands_at};
 
-use crate::replay::replay;
+use crate::replay::replay_run;
 use crew::{Turn, Work};
 use keys::{Command, Pieces};
 use mapping::Tree;
@@ -82,7 +82,7 @@ impl<'a> Work for ReadWork<'a> {
         let Some(leaf) = page.as_leaf() else {
             unreachable!()
         };
-        match replay(self.alloc, self.commands, leaf.whole(), page_run.places()) {
+        match replay_run(self.alloc, self.commands, leaf.whole(), &page_run) {
             Ok((_no_run, pieces, _bounds)) => Turn::Done(LeafRead { page_run, pieces }),
             Err(_) => Turn::Back(page_run),
         }
@@ -105,7 +105,7 @@ pub fn is_only_read(commands: &[Command<Global>], page_run: &PageRun) -> bool
 }
 
 // Whether all commands at these places only read.
-fn are_all_read_only(commands: &[Command<Global>], places: &[usize]) -> bool
+pub(crate) fn are_all_read_only(commands: &[Command<Global>], places: &[usize]) -> bool
     ensures { result ≡ list_all is_read_only (commands_at commands.now places.now) }
 {
     for place in places {

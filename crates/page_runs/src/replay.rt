@@ -1,8 +1,9 @@
-//! Executes the commands of one page in the order of their places. The changes so far lie over the page like a run, and
-//! the final changes are the net run.
+//! Executes the commands of one page. The changes so far lie over the page like a run, and the final changes are the net
+//! run.
 ghost use Rattle.std.specs.Prelude.{◌≡◌, ◌≤◌, [], length, min, Some, None, is_some, if◌then◌else◌, IfOk, OnOk};
 ghost use Rattle.std.specs.Map.{keys_of};
 ghost use Rattle.keys.specs.OrderedMap.{value_at, with_pair};
+ghost use Rattle.keys.specs.PlacedPieces.{by_place};
 ghost use Rattle.keys.specs.Range.{in_range, rows};
 ghost use Rattle.keys.specs.Step.{found, reply_to, map_after, replies_to};
 ghost use Rattle.keys.specs.declared.command.Reply.TheVariants.{New, Replaced, Added, Exists, Deleted, Missing, Wiped};
@@ -14,30 +15,68 @@ ghost use Rattle.page_runs.specs.Replies.{commands_at, pieces_of, ArePlacesOf};
 use crate::changes::{Changes, LeafChain, LeafRun};
 use crate::kinds::Kinds;
 use crate::page_rows::{keys_within, rows_of};
+use crate::places::{are_points_by_key, sorted};
+use crate::read_work::are_all_read_only;
 use delta_chain::EntryBounds;
 use keys::{Command, Key, Piece, Pieces, Reply, RowList, Value};
+use routing::PageRun;
 use std::alloc::{AllocError, Global};
 
-/// Returns the net run of the commands at these places, the page's answer to each of them, and the bounds on its number
-/// of entries afterwards: the old bounds, plus one for each reply that an entry was added, minus one for each deleted
-/// entry, and minus the number of wiped ones.
-pub(crate) fn replay(
+/// Returns what `replay` returns for the commands of a page's run in the order of the batch. If all of them only read, or
+/// are on one key each and in the order of their keys, it executes them in the order in which the run has them, because
+/// the result is the same.
+pub(crate) fn replay_run(
+    alloc: Global,
+    commands: &[Command<Global>],
+    page: &LeafChain,
+    page_run: &PageRun,
+) -> Result<(LeafRun, Pieces<Global>, EntryBounds), AllocError>
+    requires { ArePlacesOf commands.now page_run.now.places }
+    ensures run { IfOk result
+        (λ r. r.0 ≡ net_run (entries_of page.now) (commands_at commands.now page_run.now.places)) }
+    ensures pieces { IfOk result (λ r. r.1 ≡ pieces_of page_run.now.places
+        (replies_to (entries_of page.now) (commands_at commands.now page_run.now.places))) }
+    ensures fewest { IfOk result (λ r. r.2.fewest ≤ length (map_by_now page.now r.0)) }
+    ensures most { IfOk result (λ r. min (length (map_by_now page.now r.0)) usize.MAX ≤ r.2.most) }
+{
+    // Only for the proof: the contract of `depth` says that the page is in order.
+    let _in_order = page.depth();
+    let places = page_run.places();
+    if are_all_read_only(commands, places) {
+        return replay(alloc, commands, page, places, false);
+    }
+    if are_points_by_key(commands, places) {
+        return replay(alloc, commands, page, places, true);
+    }
+    if places.is_sorted() {
+        return replay(alloc, commands, page, places, false);
+    }
+    let sorted = sorted(alloc, places)?;
+    replay(alloc, commands, page, &sorted, false)
+}
+
+// Executes the commands at these places in this order. Returns their net run, the page's answer to each of them, and the
+// bounds on its number of entries afterwards: the old bounds, plus one for each reply that an entry was added, minus one
+// for each deleted entry, and minus the number of wiped ones. `by_key` tells whether the commands are on one key each and
+// in the order of their keys; it affects only the representation of the changes.
+fn replay(
     alloc: Global,
     commands: &[Command<Global>],
     page: &LeafChain,
     places: &[usize],
+    by_key: bool,
 ) -> Result<(LeafRun, Pieces<Global>, EntryBounds), AllocError>
     requires { ArePlacesOf commands.now places.now }
     ensures run { IfOk result
         (λ r. r.0 ≡ net_run (entries_of page.now) (commands_at commands.now places.now)) }
-    ensures pieces { IfOk result (λ r. r.1 ≡ pieces_of places.now
-        (replies_to (entries_of page.now) (commands_at commands.now places.now))) }
+    ensures pieces { IfOk result (λ r. r.1 ≡ by_place (pieces_of places.now
+        (replies_to (entries_of page.now) (commands_at commands.now places.now)))) }
     ensures fewest { IfOk result (λ r. r.2.fewest ≤ length (map_by_now page.now r.0)) }
     ensures most { IfOk result (λ r. min (length (map_by_now page.now r.0)) usize.MAX ≤ r.2.most) }
 {
     let kinds = Kinds::of(commands, places);
     let mut pieces = Pieces::with_capacity(alloc, kinds.room())?;
-    let mut changes = Changes::for_commands(alloc, commands, places, kinds.writes);
+    let mut changes = Changes::for_commands(alloc, kinds.writes, by_key);
     let bounds = execute_all(alloc, commands, page, places, &mut changes, &mut pieces)?;
     Ok((changes.into_run(alloc)?, pieces, bounds))
 }
@@ -57,8 +96,8 @@ fn execute_all(
     requires unanswered { pieces.old ≡ [] }
     ensures changes { OnOk result
         (changes.new ≡ net_run (entries_of page.now) (commands_at commands.now places.now)) }
-    ensures pieces { OnOk result (pieces.new ≡ pieces_of places.now
-        (replies_to (entries_of page.now) (commands_at commands.now places.now))) }
+    ensures pieces { OnOk result (pieces.new ≡ by_place (pieces_of places.now
+        (replies_to (entries_of page.now) (commands_at commands.now places.now)))) }
     ensures fewest { IfOk result (λ bounds. bounds.fewest ≤ length (map_by_now page.now changes.new)) }
     ensures most { IfOk result
         (λ bounds. min (length (map_by_now page.now changes.new)) usize.MAX ≤ bounds.most) }

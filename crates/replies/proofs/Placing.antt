@@ -8,11 +8,13 @@ use Rattle.std.proofs.lemmas.Bool.{eqb-true, eqb-false, eq-eqb, cond-true}
 use Rattle.std.proofs.lemmas.Grind.{common_steps}
 use Rattle.std.proofs.lemmas.List.{length-append, length-map, length-set, append-nil, map-append, take-append-drop, take_at, drop_more, drop_at}
 use Rattle.std.proofs.lemmas.List.Elements.{All-append, All-head, All-tail, All-rest, All-take, All-drop, All-nil, All-cons, All-filter, filter_passes, filter-append}
+use Rattle.std.proofs.lemmas.List.Sorted.{All-permutation, IsPermutation-sym}
 use Rattle.std.proofs.lemmas.List.Sums.{sum_by-cons}
 use Rattle.std.proofs.lemmas.Option.{gets, none-some, same_Some, slice_get_past, slice_get_cases, slice_get-get_or, slice_get-map, slice_get_read, get_or_from_slice_get}
 use Rattle.keys.specs.CommandKey.{is_ranged, is_scan, is_wipe}
 use Rattle.keys.specs.Footprint.{Joining, Alone, RowsUpTo, Summed, joining_of, is_of_rows, is_of_counts}
 use Rattle.keys.specs.Lists.{flat}
+use Rattle.keys.specs.PlacedPieces.{by_place}
 use Rattle.keys.specs.Places.{is_some_that, is_scan_at, is_wipe_at, is_ranged_at}
 use Rattle.keys.specs.Woven.{piece_of_empty_scan, woven}
 use Rattle.keys.specs.declared.command.Command.{Command}
@@ -21,6 +23,7 @@ use Rattle.keys.specs.declared.command.Reply.{Reply}
 use Rattle.keys.specs.declared.command.Reply.TheVariants.{Missing, Rows, Wiped}
 use Rattle.keys.specs.declared.piece.Piece.{Piece}
 use Rattle.keys.specs.declared.pieces.EmptyScan.{EmptyScan}
+use Rattle.keys.proofs.PlacedPieces.{at-by_place, same-by_place}
 use Rattle.keys.proofs.Weaving.{put_in}
 use Rattle.replies.specs.ByPlace.{pieces_at, rows_of, is_rows, count_of, is_count, most_counted, lone, joined_by, joined_replies, joined_replies_at, reply_at, IsPlaceOf, AreAnswers, limit_in, limit_of, limit_by, blank_in, blank_of, with_rows, with_count, with_answer, with_pieces}
 
@@ -233,9 +236,30 @@ module _ {A : Type 0} where
       let one = within-put_in cs ps r rest.0 in
       (one.0, All-cons (λ r. r.place < length cs) r ls one.1 rest.1)
 
-  module _ (cs : List (Command A)) (ps front back : List (Piece A)) (ls : List EmptyScan) (parts : ps ≡ woven (front ++ back) ls) where
+  -- ---- answers in the order of their places
+
+  by_place_at : (cs : List (Command A)) (ps : List (Piece A)) (rs : List (Reply A)) (i : ℕ) → i < length rs → slice_get (with_pieces cs (by_place ps) rs) i ≡ slice_get (with_pieces cs ps rs) i
+  by_place_at cs ps rs i h =
+      with_pieces-get cs (by_place ps) rs i h
+      ∙ ap (λ (qs : List (Piece A)). added (limit_by (slice_get cs i)) (slice_get rs i) (replies_of qs)) (at-by_place i ps)
+      ∙ sym (with_pieces-get cs ps rs i h)
+
+  -- the order of pieces at different places does not matter
+  with_pieces-by_place : (cs : List (Command A)) (ps : List (Piece A)) (rs : List (Reply A)) → with_pieces cs (by_place ps) rs ≡ with_pieces cs ps rs
+  with_pieces-by_place cs ps rs =
+      let one = length-with_pieces cs (by_place ps) rs in
+      let other = length-with_pieces cs ps rs in
+      same_at_each _ _ (λ i. elim ((slice_get_cases rs i).1) [
+        | inl w ↦ by_place_at cs ps rs i w.1
+        | inr w ↦ slice_get_past (with_pieces cs (by_place ps) rs) i (omega (arith, one, w.0)) ∙ sym (slice_get_past (with_pieces cs ps rs) i (omega (arith, other, w.0)))
+      ])
+
+  within-by_place : (cs : List (Command A)) (ps : List (Piece A)) → All (IsPlaceOf cs) (by_place ps) → All (IsPlaceOf cs) ps
+  within-by_place cs ps h = All-permutation (IsPlaceOf cs) (by_place ps) ps (IsPermutation-sym ps (by_place ps) (same-by_place ps)) h
+
+  module _ (cs : List (Command A)) (ps front back : List (Piece A)) (ls : List EmptyScan) (parts : ps ≡ by_place (woven (front ++ back) ls)) where
     both_within : All (IsPlaceOf cs) ps → All (IsPlaceOf cs) (front ++ back) × All (λ r. r.place < length cs) ls
-    both_within h = within-woven cs (front ++ back) ls (subst (All (IsPlaceOf cs)) parts h)
+    both_within h = within-woven cs (front ++ back) ls (within-by_place cs (woven (front ++ back) ls) (subst (All (IsPlaceOf cs)) parts h))
 
     pub first_within : All (IsPlaceOf cs) ps → All (IsPlaceOf cs) front
     first_within h = within-front cs (front ++ back) front back refl (both_within h).0
@@ -249,7 +273,7 @@ module _ {A : Type 0} where
     pub with_pieces-all : (rs one two end : List (Reply A)) → one ≡ with_pieces cs front rs → two ≡ with_pieces cs back one → end ≡ with_pieces cs (map piece_of_empty_scan ls) two → end ≡ with_pieces cs ps rs
     with_pieces-all rs one two end e f h =
         h ∙ ap (with_pieces cs (map piece_of_empty_scan ls)) (with_pieces-parts cs (front ++ back) front back refl rs one two e f)
-        ∙ sym (with_pieces-woven cs (front ++ back) ls rs) ∙ ap (λ (qs : List (Piece A)). with_pieces cs qs rs) (sym parts)
+        ∙ sym (with_pieces-by_place cs (woven (front ++ back) ls) rs ∙ with_pieces-woven cs (front ++ back) ls rs) ∙ ap (λ (qs : List (Piece A)). with_pieces cs qs rs) (sym parts)
 
     pub count-two : (rs one two : List (Reply A)) → one ≡ with_pieces cs front rs → two ≡ with_pieces cs back one → length two ≡ length rs
     count-two rs one two e f = ap length f ∙ length-with_pieces cs back one ∙ ap length e ∙ length-with_pieces cs front rs

@@ -5,6 +5,7 @@ pub mod DescentLemmas
 mod DownLemmas
 mod IdleLemmas
 mod LevelShares
+pub mod RisingPlaces
 pub mod RouteLemmas
 mod Rows
 pub mod RunLemmas

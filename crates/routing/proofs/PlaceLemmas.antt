@@ -1,7 +1,6 @@
 -- Lemmas on places in a batch, for the proofs of this crate and of those above it.
 use Rattle.std.proofs.Common.{◌≡◌, ℕ, zero, suc, ◌+◌, List, [], ◌∷◌, ◌++◌, ap, ◌∙◌, arith}
 use Rattle.std.specs.List.{range_with_len}
-use Rattle.std.specs.List.Sorted.{IsStrictlyIncreasing}
 use Rattle.std.proofs.lemmas.List.{map-append}
 use Rattle.routing.specs.Keyed.{Keyed, places_of}
 
@@ -20,7 +19,3 @@ range-append a (suc n) m b (suc k) h e = ap (λ (is : List ℕ). a ∷ is) (rang
 pub places_joined : (xs ys all : List Keyed) (a n m b k : ℕ) → all ≡ xs ++ ys → places_of xs ≡ range_with_len a n → places_of ys ≡ range_with_len b m → a + n ≡ b → n + m ≡ k → places_of all ≡ range_with_len a k
 places_joined xs ys all a n m b k e p q h l =
     ap (λ (x : List Keyed). places_of x) e ∙ map-append (λ (entry : Keyed). entry.1) xs ys ∙ rw (p, q) (range-append a n m b k h l)
-
--- one place alone rises
-pub rising-one : (place : ℕ) → IsStrictlyIncreasing (place ∷ [])
-rising-one place = λ k h. absurd (omega arith)

@@ -19,7 +19,7 @@ use crate::batch::BatchWithEnds;
 use crate::page_run::PageRun;
 use crate::reaching::{going_on, has_range_at, without_idle};
 use crate::share::Share;
-use crate::sort::{Keyed, count_below, in_batch_order, sharing, sorted_places};
+use crate::sort::{Keyed, count_below, in_batch_order, in_key_order, sharing, sorted_places};
 use index_page::Page;
 use keys::{Fault, Pid};
 use mapping::Tree;
@@ -107,7 +107,7 @@ fn runs_below<R: Threads + Sync>(
         return runs_of_both(rt, workers, alloc, tree, batch, ranged, levels, low, high);
     }
     if levels == 0 {
-        return each_in_batch_order(alloc, shares);
+        return each_run(alloc, batch, ranged, shares);
     }
     let below = one_level_down(alloc, tree, batch, ranged, shares)?;
     runs_below(rt, workers, alloc, tree, batch, ranged, levels - 1, &below)
@@ -343,20 +343,31 @@ fn next_key<'a, 'k>(keyed: &'a [Keyed<'k>], reaching: &[usize], low: &'a [u8]) -
 }
 
 #[inline(never)]
-fn each_in_batch_order(alloc: Global, shares: &[Share<'_, '_>]) -> Result<Vec<PageRun>, AllocError>
+fn each_run(
+    alloc: Global,
+    batch: &BatchWithEnds<'_>,
+    ranged: bool,
+    shares: &[Share<'_, '_>],
+) -> Result<Vec<PageRun>, AllocError>
     requires { AllByRecursion HasEachPlaceOnce (lent_shares shares.now) }
     ensures { IfOk result (λ runs. AreInBatchOrder (lent_shares shares.now) runs.items) }
 {
     let mut runs = Vec::with_capacity(alloc, shares.len())?;
     for share in shares {
-        let run = page_run_of(alloc, share)?;
+        let run = page_run_of(alloc, batch, ranged, share)?;
         runs.push(run)?;
     }
     Ok(runs)
 }
 
-// Sorts the share's places into batch order. A single place is in order, and needs no list.
-fn page_run_of(alloc: Global, share: &Share<'_, '_>) -> Result<PageRun, AllocError>
+// Makes the run of a share. A single place needs no list. If a scan or wipe is for this page, the places are sorted into
+// batch order. Otherwise they stay in the order of their keys.
+fn page_run_of(
+    alloc: Global,
+    batch: &BatchWithEnds<'_>,
+    ranged: bool,
+    share: &Share<'_, '_>,
+) -> Result<PageRun, AllocError>
     requires { HasEachPlaceOnce (share_of_lent share.now) }
     ensures { IfOk result (λ run. IsInBatchOrder (share_of_lent share.now) run) }
 {
@@ -366,6 +377,8 @@ fn page_run_of(alloc: Global, share: &Share<'_, '_>) -> Result<PageRun, AllocErr
     if keyed.len() == 1 && reaching.is_empty() {
         return Ok(PageRun::of_one(pid, keyed[0].1));
     }
-    let places = in_batch_order(alloc, keyed, reaching)?;
-    Ok(PageRun::new(pid, places))
+    if reaching.is_empty() && !(ranged && has_range_at(batch, keyed)) {
+        return Ok(PageRun::new(pid, in_key_order(alloc, keyed)?));
+    }
+    Ok(PageRun::new(pid, in_batch_order(alloc, keyed, reaching)?))
 }

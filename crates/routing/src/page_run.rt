@@ -1,14 +1,16 @@
 //! The commands of a batch for one page.
-ghost use Rattle.std.specs.Prelude.{◌≡◌, ◌∷◌, []};
-ghost use Rattle.std.specs.List.Sorted.{IsStrictlyIncreasing};
+ghost use Rattle.std.specs.Prelude.{◌≡◌, ◌∷◌, [], nat_eq};
+ghost use Rattle.std.specs.List.{IsDistinct};
+ghost use Rattle.std.specs.List.Sorted.{IsPermutation, IsStrictlyIncreasing};
+ghost use Rattle.routing.specs.KeptPlaces.{rising};
 
 use keys::Pid;
 use std::marker::Model;
 use std::slice;
 
 /// The commands of a batch that must be applied to one page: the page id, and the commands' places in the batch,
-/// counted from 0, in strictly rising order. Contracts see it as a `Route`. A single place is stored without a list,
-/// because in a batch of scattered keys most pages have one command.
+/// counted from 0, in any order. Contracts see it as a `Route`, whose places rise. A single place is stored without a
+/// list, because in a batch of scattered keys most pages have one command.
 #[derive(Drop)]
 pub struct PageRun {
     pid: Pid,
@@ -26,19 +28,20 @@ impl Model for PageRun {
 
     ghost Value = { Route };
 
-    ghost use Rattle.std.specs.List.Sorted.{IsStrictlyIncreasing};
-    ghost use Rattle.routing.specs.KeptPlaces.{places_kept};
+    ghost use Rattle.std.specs.Prelude.{nat_eq};
+    ghost use Rattle.std.specs.List.{IsDistinct};
+    ghost use Rattle.routing.specs.KeptPlaces.{places_kept, rising};
 
-    ghost view = { λ r. record { pid = r.pid; places = places_kept r.places } };
+    ghost view = { λ r. record { pid = r.pid; places = rising (places_kept r.places) } };
 
-    ghost invariant = { λ r. IsStrictlyIncreasing (places_kept r.places) };
+    ghost invariant = { λ r. IsDistinct nat_eq (places_kept r.places) };
 }
 
 impl PageRun {
-    /// Makes the run of the page with this id and these places, which must be strictly rising.
+    /// Makes the run of the page with this id and these places, of which no two may be equal.
     pub fn new(pid: Pid, places: Vec<usize>) -> PageRun
-        requires { IsStrictlyIncreasing places.items }
-        ensures { result ≡ record { pid = pid; places = places.items } }
+        requires { IsDistinct nat_eq places.items }
+        ensures { result ≡ record { pid = pid; places = rising places.items } }
     {
         PageRun {
             pid,
@@ -63,9 +66,9 @@ impl PageRun {
         self.pid
     }
 
-    /// Returns the places, in strictly rising order.
+    /// Returns the places, in the order in which they were given.
     pub fn places(&self) -> &[usize]
-        ensures value { result.now ≡ self.now.places }
+        ensures same { IsPermutation self.now.places result.now }
         ensures rising { IsStrictlyIncreasing self.now.places }
     {
         match &self.places {

@@ -175,3 +175,10 @@ pub(crate) fn in_batch_order(
     sorted.sort_unstable();
     Ok(sorted)
 }
+
+/// Returns the places of these entries, in their order.
+pub(crate) fn in_key_order(alloc: Global, keyed: &[Keyed<'_>]) -> Result<Vec<usize>, AllocError>
+    ensures { IfOk result (λ places. places.items ≡ places_of keyed.now) }
+{
+    keyed.iter().map(|entry| entry.1).collect(alloc)
+}

@@ -1,7 +1,7 @@
 use Rattle.std.proofs.Common.{◌∙◌, ap, sym, eqb-true}
 use Rattle.routing.specs.Routes.{Route}
-use Rattle.routing.proofs.BatchOrder.{order_of_one, same_order, same_parts}
-use Rattle.routing.proofs.SliceLemmas.{rising_once_sorted}
+use Rattle.routing.proofs.BatchOrder.{order_of_one, same_parts}
+use Rattle.routing.proofs.RisingPlaces.{distinct_places, in_batch_order_by, own_places}
 use Rattle.routing.proofs.descent.page_run_of.Goals as goal
 
 pub returns-then-is_empty : goal.returns-then-is_empty
@@ -10,12 +10,15 @@ returns-then-is_empty c =
     (ap (λ (r : Route). r.pid) c.of_one.ensures ∙ c.pid-pid.ensures)
     (ap (λ (r : Route). r.places) c.of_one.ensures)
 
-pub new-requires : goal.new-requires
-new-requires c =
-    let places = c.in_ok-places.ensures in
-    rising_once_sorted _ _ c.requires (same_parts c.args.share.now _ _ _ c.keyed-keyed.ensures c.reaching-reaching.ensures places.same) places.rising
+pub returns-then-not-has_range_at : goal.returns-then-not-has_range_at
+returns-then-not-has_range_at c =
+    in_batch_order_by _ _ _ _ c.new.ensures c.pid-pid.ensures
+    (own_places c.args.share.now _ _ _ c.keyed-keyed.ensures c.reaching-reaching.ensures (eqb-true _ _ (sym c.is_empty-2.ensures ∙ c.if-is_empty-2.true)) c.in_ok-in_key_order.ensures)
+
+pub new-requires-2 : goal.new-requires-2
+new-requires-2 c =
+    distinct_places c.args.share.now _ c.requires (same_parts c.args.share.now _ _ _ c.keyed-keyed.ensures c.reaching-reaching.ensures c.in_ok-in_batch_order.ensures.same)
 
 pub returns : goal.returns
 returns c =
-    let places = c.in_ok-places.ensures in
-    same_order _ _ _ c.new.ensures (record { pid = c.pid-pid.ensures; same = same_parts c.args.share.now _ _ _ c.keyed-keyed.ensures c.reaching-reaching.ensures places.same; rising = places.rising })
+    in_batch_order_by _ _ _ _ c.new-2.ensures c.pid-pid.ensures (same_parts c.args.share.now _ _ _ c.keyed-keyed.ensures c.reaching-reaching.ensures c.in_ok-in_batch_order.ensures.same)

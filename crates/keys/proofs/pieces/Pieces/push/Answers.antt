@@ -1,5 +1,8 @@
-use Rattle.std.proofs.Common.{◌++◌, refl, arith}
+use Rattle.std.proofs.Common.{◌++◌, ◌∙◌, ap, refl, arith}
 use Rattle.std.specs.Option.{option_to_list}
+use Rattle.keys.specs.PlacedPieces.{by_place}
+use Rattle.keys.specs.Woven.{woven}
+use Rattle.keys.proofs.PlacedPieces.{by_place-push}
 use Rattle.keys.proofs.Weaving.{counted, rowless_pushed, rowless_within}
 use Rattle.keys.proofs.pieces.Pieces.push.Goals as goal
 
@@ -14,5 +17,6 @@ pub returns-then-before-le-MOST-clause-ok : goal.returns-then-before-le-MOST-cla
 returns-then-before-le-MOST-clause-ok g c =
     let inside = c.self.inside in
     rw (← c.self.view_is)
-    (rowless_pushed (option_to_list inside.first ++ inside.rest.items) inside.empty_scans.items c.push.new.self.items _ c.args.piece c.in_ok-push.ensures.items
+    (ap by_place (rowless_pushed (option_to_list inside.first ++ inside.rest.items) inside.empty_scans.items c.push.new.self.items _ c.args.piece c.in_ok-push.ensures.items
     (counted inside.first inside.rest.items inside.empty_scans.items c.args.self.now c.count-before.result c.self.view_is (omega (arith, c.count-before.ensures, c.if-before-le-MOST.true))) refl (c.if-is_without_rows.ensures refl))
+    ∙ by_place-push (woven (option_to_list inside.first ++ inside.rest.items) inside.empty_scans.items) c.args.piece)

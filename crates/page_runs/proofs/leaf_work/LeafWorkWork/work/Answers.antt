@@ -20,6 +20,6 @@ returns-in-Ok-put_leaf_run-clause-made c =
     done_made c.boxed.result _ _ c.boxed.ensures.done
     (ap (λ (p : InMemory). (leaf_updated p c.in-Ok-put_leaf_run.way_back c.args.job.page_run c.in-Ok.pieces).made) (c.leaf.ensures ∙ ap (λ (l : Lazy Bytes). LeafInMemory c.into_leaf-low.result.0 l) c.bound.ensures)
     ∙ made_in_memory c.args.self.now.settings c.args.self.now.commands.now c.args.job.page_run c.into_leaf-low.result.0 c.into_leaf-low.result.1 c.in-Ok-put_leaf_run.chain c.in-Ok-put_leaf_run.way_back
-    c.args.job.page c.whole.result.now c.places.result.now c.in-Ok.run' c.in-Ok.pieces
-    c.into_leaf-low.ensures c.whole.ensures c.places.ensures.value c.in-Ok.ensures.run c.in-Ok.ensures.pieces
+    c.args.job.page c.whole.result.now c.in-Ok.run' c.in-Ok.pieces
+    c.into_leaf-low.ensures c.whole.ensures c.in-Ok.ensures.run c.in-Ok.ensures.pieces
     c.in-Ok-put_leaf_run.ensures.page c.in-Ok-put_leaf_run.ensures.class c.in-Ok-put_leaf_run.ensures.replaced)

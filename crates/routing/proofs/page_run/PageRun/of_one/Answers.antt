@@ -1,5 +1,5 @@
-use Rattle.routing.proofs.PlaceLemmas.{rising-one}
+use Rattle.routing.proofs.RisingPlaces.{distinct-one}
 use Rattle.routing.proofs.page_run.PageRun.of_one.Goals as goal
 
 pub invariant_of-result : goal.invariant_of-result
-invariant_of-result c = rising-one c.args.place
+invariant_of-result c = distinct-one c.args.place

@@ -1,6 +1,6 @@
 use Rattle.std.proofs.Common.{take}
 use Rattle.routing.specs.Shares.{lent_shares, AreInBatchOrder}
-use Rattle.routing.proofs.descent.each_in_batch_order.Given as goal
+use Rattle.routing.proofs.descent.each_run.Given as goal
 
 -- the runs so far are the shares so far, each in the order of the batch
 abbrev pub invariant-loop-share : goal.invariant-loop-share

@@ -2,7 +2,7 @@ use Rattle.std.proofs.Common.{◌<◌, length, arith}
 use Rattle.routing.proofs.BatchOrder.{order_step}
 use Rattle.routing.specs.Shares.{HasEachPlaceOnce}
 use Rattle.routing.proofs.ShareLemmas.{share_taken}
-use Rattle.routing.proofs.descent.each_in_batch_order.Goals as goal
+use Rattle.routing.proofs.descent.each_run.Goals as goal
 
 pub loop-share-preserved : goal.loop-share-preserved
 loop-share-preserved c =
