@@ -38,6 +38,7 @@ pub mod BridgeDrawn
 mod ChangedRooms
 mod Rooted
 mod OnlyChild
+mod ParentWay
 mod Shrinking
 -- ---- the code: what it sees and makes is as the plan says
 mod RewritingSeen
@@ -45,7 +46,6 @@ mod RewritingGroups
 mod RewritingFamily
 mod RewritingLevel
 mod RewritingWalk
-mod DescentWay
 mod ChangedNames
 mod ChangedPieces
 pub mod BridgeSeen

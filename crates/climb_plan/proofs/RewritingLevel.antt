@@ -16,6 +16,7 @@ use Rattle.mapping.specs.Levels.{Placed, entries, joined}
 use Rattle.mapping.specs.Proper.{next_low, IsTile, Tiled}
 use Rattle.mapping.specs.Table.{Mapping, page_of}
 use Rattle.mapping.specs.TreeInMemory.{TreeInMemory}
+use Rattle.mapping.proofs.DescentWay.{pid_for}
 use Rattle.mapping.proofs.TileLemmas.{tiled_apart, from-joined, before-joined, rising-joined}
 use Rattle.page_runs.specs.declared.class.Class.{Class}
 use Rattle.page_runs.specs.Updated.{is_fat_class}
@@ -23,7 +24,6 @@ use Rattle.split_plan.specs.Groups.{Gathered, with_child, gathered, with_leading
 use Rattle.climb_plan.specs.Changing.{SeenPage, needs_restructuring}
 use Rattle.climb_plan.specs.Rewriting.{seen_name, lows, AreSeenIn, is_thin_seen, is_rewritten_seen, rewritten_groups, Rewriting, with_rewriting, rewriting_families, rewriting_counts, groups_of, IsLevelSeen, IsQuiet, HasFirstCall, pids_for, IsFamilyOf}
 use Rattle.climb_plan.specs.Rewriting.AreSeenIn.{updated, at_home}
-use Rattle.climb_plan.proofs.DescentWay.{pid_for}
 use Rattle.climb_plan.proofs.RewritingFamily.{Separators}
 use Rattle.climb_plan.proofs.RewritingSeen.{all_lows}
 use Rattle.climb_plan.proofs.LevelParts.{family_of}

@@ -81,14 +81,7 @@ fn parent_of(tree: &Tree<Global>, depth: u32, key: &[u8]) -> Pid
     ensures { (ps : List (Placed ℕ)) (ups : List (List (Placed ℕ))) →
         AreParents tree.now depth ps ups → pids_for ps key.now ≡ result ∷ [] }
 {
-    let mut pid = tree.root();
-    for _level in 0..depth {
-        match tree.page(pid) {
-            Some(page) => pid = page.child_for(key),
-            None => unreachable!(),
-        }
-    }
-    pid
+    tree.descend(depth, key)
 }
 
 // Appends the groups of the parent's children that are rewritten. Returns the place after the last of the pages `seen`

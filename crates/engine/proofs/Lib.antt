@@ -37,6 +37,7 @@ mod LeafRoutes
 mod NeutralLemmas
 mod NumbersLemmas
 mod OneClean
+mod OneKey
 mod OneLeaf
 mod OneStepLemmas
 mod OpenedLemmas
@@ -66,4 +67,3 @@ mod TextSteps
 mod TidyLemmas
 mod UnfinishedLemmas
 mod Verified
-mod WayOfOne

@@ -10,7 +10,6 @@ pub mod Copies
 pub mod FileStore
 pub mod Hidden
 pub mod Late
-pub mod LeafFor
 pub mod Leaves
 pub mod OneStep
 pub mod OnlyRoute

@@ -84,15 +84,7 @@ fn leaf_of(tree: &Tree<Global>, command: &Command<Global>) -> Pid
     requires point { is_ranged command.now ≡ false }
     ensures { IsOnlyLeaf (tree_of tree.now) command.now result }
 {
-    let bytes = command.key().as_bytes();
-    let mut pid = tree.root();
-    for _level in 0..tree.height().saturating_sub(1) {
-        match tree.page(pid) {
-            Some(page) => pid = page.child_for(bytes),
-            None => unreachable!(),
-        }
-    }
-    pid
+    tree.leaf_for(command.key().as_bytes())
 }
 
 // The replies, if the command only reads. Its leaf stays in the tree.

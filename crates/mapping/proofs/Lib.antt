@@ -1,6 +1,8 @@
 pub mod Crossing
 mod Around
 mod Counted
+mod DescentLemmas
+pub mod DescentWay
 pub mod DrawnPlaces
 mod DueSlots
 pub mod DueTable

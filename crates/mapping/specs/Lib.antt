@@ -1,3 +1,4 @@
+pub mod Descent
 pub mod Due
 pub mod Finding
 pub mod Flushed

@@ -5,6 +5,7 @@
 //! laws about them. Other crates import items from this root, and laws from the public module `laws`.
 #![tactic(auto)]
 
+mod descent;
 mod due;
 mod flush;
 pub mod laws;

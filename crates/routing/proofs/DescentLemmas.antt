@@ -25,6 +25,8 @@ use Rattle.mapping.specs.Tree.{Tree, page_at}
 use Rattle.mapping.specs.Levels as levels
 use Rattle.mapping.specs.Levels.{Placed, Levels, joined, name, names, as_index, leaf_at, index_at, levels_below, levels_of, first_pid, top_pid}
 use Rattle.mapping.specs.Proper.{next_low, IsTile, Tiled, Stacked, AreLevels, HasIndexPages, HoldsLevels}
+use Rattle.mapping.proofs.DescentWay.{count_above}
+use Rattle.mapping.proofs.SameTree.{root_on_top}
 use Rattle.mapping.proofs.TileLemmas.{Separators, next_low-parents}
 use Rattle.mapping.proofs.LevelLemmas.{values_of-names, index_pages_found}
 use Rattle.routing.specs.BatchKeys.{key_or_empty, key_at}
@@ -284,34 +286,14 @@ module _ (pages : List (ℕ × PageOfKind)) where
         | inr b ↦ (let same : length ups ≡ i = omega arith in subst (λ (j : ℕ). IsLevelAt (top_pid up ups) j) same own)
       ]
 
-  -- ---- the root and the height
-
-  top_same : (level : List ℕ) (above : List (List (Placed ℕ))) → top_pid (map (index_at pages) level) above ≡ top_pid (map (leaf_at pages) level) above
-  top_same [] [] = refl
-  top_same (n ∷ ns) [] = refl
-  top_same ns (up ∷ ups) = refl
-
-  pub top-levels : (n : ℕ) (level : List ℕ) (above : List (List (Placed ℕ))) → (let l : Levels = levels_below pages n level above in top_pid l.level l.above ≡ top_pid (map (leaf_at pages) level) above)
-  top-levels zero level above = refl
-  top-levels (suc n) level above =
-      let here : List (Placed ℕ) = map (index_at pages) level in
-      top-levels n (values_of (joined here)) (here ∷ above) ∙ top_same level above
-
-  pub height-levels : (n : ℕ) (level : List ℕ) (above : List (List (Placed ℕ))) → (let l : Levels = levels_below pages n level above in length l.above ≡ n + length above)
-  height-levels zero level above = omega arith
-  height-levels (suc n) level above =
-      let here : List (Placed ℕ) = map (index_at pages) level in
-      let e = height-levels n (values_of (joined here)) (here ∷ above) in
-      e ∙ omega arith
-
 -- ---- of a tree whose levels are in order
 
 module _ (t : Tree) (held : HoldsLevels t.pages (levels_of t)) (levels : AreLevels (levels_of t)) where
   root_is_top : top_pid (levels_of t).level (levels_of t).above ≡ t.root
-  root_is_top = top-levels t.pages (pred t.height) (t.root ∷ []) []
+  root_is_top = root_on_top t.pages (pred t.height) t.root
 
   above_height : length (levels_of t).above ≡ pred t.height
-  above_height = let e = height-levels t.pages (pred t.height) (t.root ∷ []) [] in e ∙ (let z : pred t.height + 0 ≡ pred t.height = omega arith in z)
+  above_height = let e = count_above t.pages (pred t.height) (t.root ∷ []) [] in e ∙ (let z : pred t.height + 0 ≡ pred t.height = omega arith in z)
 
   -- the separators of the leaves
   pub names-leaves : names_at t.pages t.root (pred t.height) ≡ names (levels_of t).level

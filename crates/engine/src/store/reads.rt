@@ -13,7 +13,6 @@ ghost use Rattle.mapping.specs.Tree.{page_at};
 ghost use Rattle.mapping.specs.TreeInMemory.{AreAllHome, tree_of};
 ghost use Rattle.scan.specs.Back.{rows_back};
 ghost use Rattle.scan.specs.Prefix.{with_prefix};
-ghost use Rattle.engine.specs.LeafFor.{IsLeafFor};
 ghost use Rattle.engine.specs.SoundTree.{IsReadable};
 
 use crate::store::Store;
@@ -105,22 +104,7 @@ fn chain_for<'a>(tree: &'a Tree<Global>, key: &[u8]) -> &'a Chain<Value<Global>,
     ensures { value_at key.now (entries_of result.now)
         ≡ value_at key.now (contents (tree_of tree.now)) }
 {
-    leaf_under(tree, leaf_for(tree, key))
-}
-
-// The page id of that leaf.
-fn leaf_for(tree: &Tree<Global>, key: &[u8]) -> Pid
-    requires readable { IsReadable tree.now }
-    ensures { IsLeafFor (tree_of tree.now) key.now result }
-{
-    let mut pid = tree.root();
-    for _level in 0..tree.height().saturating_sub(1) {
-        match tree.page(pid) {
-            Some(page) => pid = page.child_for(key),
-            None => unreachable!(),
-        }
-    }
-    pid
+    leaf_under(tree, tree.leaf_for(key))
 }
 
 // The contents of the leaf with this page id, as they are in memory.

@@ -1,35 +1,13 @@
-use Rattle.std.proofs.Common.{◌≡◌, ◌<◌, ◌-◌, ◌∷◌, [], List, ℕ, subst, ◌∙◌, arith}
+use Rattle.std.proofs.Common.{◌≡◌, ◌∙◌, ◌∷◌, [], List, ℕ, subst}
 use Rattle.keys.specs.CommandKey.{key_of}
+use Rattle.mapping.specs.Descent.{pids_for}
+use Rattle.mapping.specs.Levels.{names, levels_of}
 use Rattle.mapping.specs.TreeInMemory.{tree_of}
-use Rattle.routing.proofs.DescentLemmas.{names_at, same_pred}
-use Rattle.engine.proofs.WayOfOne.{below_pred, pids_for, at_root, has_child, not_missing, at_child, only_route}
+use Rattle.engine.proofs.OneKey.{only_route}
 use Rattle.engine.proofs.execute_one.leaf_of.Goals as goal
-
-pub loop-level-init : goal.loop-level-init
-loop-level-init c = rw c.root-pid.ensures (at_root (tree_of c.args.tree.now) c.requires.held c.requires.levels c.as_bytes-bytes.result.now)
-
-pub child_for-pid-requires : goal.child_for-pid-requires
-child_for-pid-requires c =
-    let i = c.loop-level._level in
-    let within : i < c.args.tree.now.height - 1 = omega arith in
-    has_child (tree_of c.args.tree.now) c.requires.held c.requires.levels c.as_bytes-bytes.result.now i c.loop-level.pid c.in-Some.page.now (below_pred i c.args.tree.now.height within) c.loop-level.invariant (c.in-Some.ensures.listed c.requires.home)
-
-pub unreachable-requires : goal.unreachable-requires
-unreachable-requires c =
-    let i = c.loop-level._level in
-    let within : i < c.args.tree.now.height - 1 = omega arith in
-    not_missing (tree_of c.args.tree.now) c.requires.held c.requires.levels c.as_bytes-bytes.result.now i c.loop-level.pid (below_pred i c.args.tree.now.height within) c.loop-level.invariant (c.in-None.ensures.listed c.requires.home)
-
-pub loop-level-preserved : goal.loop-level-preserved
-loop-level-preserved c =
-    let i = c.loop-level._level in
-    let within : i < c.args.tree.now.height - 1 = omega arith in
-    at_child (tree_of c.args.tree.now) c.requires.held c.requires.levels c.as_bytes-bytes.result.now i c.loop-level.pid c.child_for-pid.result c.in-Some.page.now (below_pred i c.args.tree.now.height within) c.loop-level.invariant (c.in-Some.ensures.listed c.requires.home) c.child_for-pid.ensures
 
 pub returns : goal.returns
 returns c =
-    let i = c.loop-level._level in
-    let last : i ≡ c.args.tree.now.height - 1 = omega arith in
-    let key : c.as_bytes-bytes.result.now ≡ key_of c.args.command.now = c.as_bytes-bytes.ensures ∙ c.key.ensures in
-    let here : pids_for (key_of c.args.command.now) (names_at (tree_of c.args.tree.now).pages c.args.tree.now.root i) ≡ c.loop-level.pid ∷ [] = subst (λ (k : List ℕ). pids_for k (names_at (tree_of c.args.tree.now).pages c.args.tree.now.root i) ≡ c.loop-level.pid ∷ []) key c.loop-level.invariant in
-    only_route c.args.command.now c.requires.point (tree_of c.args.tree.now) c.requires.held c.requires.levels i c.loop-level.pid (same_pred i c.args.tree.now.height last) here
+    let key : c.as_bytes.result.now ≡ key_of c.args.command.now = c.as_bytes.ensures ∙ c.key.ensures in
+    only_route c.args.command.now c.requires.point (tree_of c.args.tree.now) c.leaf_for.result
+    (subst (λ (k : List ℕ). pids_for k (names (levels_of (tree_of c.args.tree.now)).level) ≡ c.leaf_for.result ∷ []) key c.leaf_for.ensures.only)

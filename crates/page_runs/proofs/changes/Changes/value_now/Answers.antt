@@ -25,4 +25,4 @@ returns c =
       | in-Many+in_default-get w ↦
           rw (← c.self.view_is, w.in-Many.is) (unnamed_now c.args.page.now w.in-Many.map.entries c.args.key.now c.requires w.len-rising-in-Many.ensures.ordered w.in_default-get.ensures.value)
     ] in
-    rw c.as_bytes.ensures at c.get.ensures ∙ unnamed
+    rw c.as_bytes-2.ensures at c.get-2.ensures ∙ unnamed
