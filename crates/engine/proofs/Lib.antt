@@ -28,6 +28,7 @@ mod Executed
 mod FileStoreLemmas
 mod FirstRow
 mod FlushDone
+mod HandleLemmas
 mod HiddenCopies
 mod HiddenLemmas
 mod HiddenMade
@@ -43,6 +44,7 @@ mod OneStepLemmas
 mod OpenedLemmas
 mod OutdatedTables
 mod OwnRuns
+mod PairCounts
 mod PartAnswers
 mod PartedLemmas
 mod PendingLemmas

@@ -8,6 +8,7 @@ pub mod Cleans
 pub mod Compacted
 pub mod Copies
 pub mod FileStore
+pub mod Handle
 pub mod Hidden
 pub mod Late
 pub mod Leaves
@@ -25,4 +26,5 @@ pub mod Steps
 pub mod StoreClaim
 pub mod Tasks
 pub mod Tidied
+pub mod Tokens
 pub mod Turns

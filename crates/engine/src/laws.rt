@@ -1,13 +1,13 @@
 //! Laws about sequences of batches, flushes, cleans and upgrades, in terms of the single calls. Each law is the
 //! contract of a function with an empty body.
-ghost use Rattle.std.specs.Prelude.{◌≡◌, ◌≢◌, ◌^◌, ◌<◌, ◌↔◌, List, [], ◌∷◌, length, take, None, Some, Ok, Err};
+ghost use Rattle.std.specs.Prelude.{◌≡◌, ◌≢◌, ◌^◌, ◌<◌, ◌↔◌, ℕ, List, [], ◌∷◌, length, slice_get, take, None, Some, Ok, Err};
 ghost use Rattle.std.specs.List.{AllByRecursion};
 ghost use Rattle.keys.specs.Bytes.{Bytes, Pairs};
 ghost use Rattle.keys.specs.Limits.{first_bad_field};
 ghost use Rattle.keys.specs.Lists.{flat};
 ghost use Rattle.keys.specs.OrderedMap.{value_at};
 ghost use Rattle.keys.specs.Range.{rows};
-ghost use Rattle.keys.specs.Step.{replies_to, map_after_all};
+ghost use Rattle.keys.specs.Step.{reply_to, replies_to, map_after_all};
 ghost use Rattle.keys.specs.declared.command.Command.{Command};
 ghost use Rattle.keys.specs.declared.fault.Fault.TheVariants.{NotAStore};
 ghost use Rattle.keys.specs.declared.settings.Settings.{Settings};
@@ -35,6 +35,14 @@ use std::alloc::Allocator;
 pub fn a_value_is_the_first_row_from_its_key()
     ensures { (s : Settings) (t : Tree) (k v : Bytes) → IsProper s t →
         ((value_at k (contents t) ≡ Some v) ↔ (rows k None 1 (contents t) ≡ (k, v) ∷ [])) }
+{}
+
+/// A token finds the reply to its command, on the map that the earlier commands of the batch left (`IsAdded` says that
+/// a token is the place of a command in its batch).
+pub fn a_token_finds_its_reply<A: Allocator>()
+    ensures { (m : Pairs Bytes) (cs : List (Command A)) (token : ℕ) (c : Command A) →
+        slice_get cs token ≡ Some c →
+        slice_get (replies_to m cs) token ≡ Some (reply_to (map_after_all m (take token cs)) c) }
 {}
 
 /// A disk whose bytes do not begin with the magic word of a settings block has no store, whatever its other bytes are.

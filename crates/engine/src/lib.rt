@@ -8,6 +8,7 @@ mod execute;
 mod execute_one;
 mod explain;
 mod file_store;
+mod handle;
 mod hidden_disk;
 pub mod laws;
 mod leaf_tasks;
@@ -22,6 +23,7 @@ mod unfinished;
 
 pub use crate::explain::{ExplainedFault, ExplainedOpenFault, file_remedy, meaning, remedy};
 pub use crate::file_store::{OpenFault, open_or_create};
+pub use crate::handle::{Batch, Handle, Replies, Token};
 pub use crate::ordered_store::{
     OrderedStore, SnapshotDisk, SnapshotStore, play, put_then_get, put_then_get_in_memory,
     put_twice_then_get,

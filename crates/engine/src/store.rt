@@ -89,6 +89,10 @@ impl<D: Disk> Store<D> {
         self.settings
     }
 
+    pub(crate) fn alloc(&self) -> Global {
+        self.alloc
+    }
+
     /// Returns the disk. Bytes that are written to it outside the store are not the store's.
     pub fn disk(&self) -> &D
         ensures { result.now ≡ self.now.disk }

@@ -1,7 +1,9 @@
 //! Numbers for operating a store: how full its log is, whether a flush is due and what it would add, and how many pairs
 //! there are.
 ghost use Rattle.std.specs.Prelude.{◌≡◌, ◌≢◌, ◌⊎◌, ◌↔◌, ◌+◌, ◌^◌, ◌-◌, ◌<◌, ◌≤◌, [], length, min, None, Ok, IsTrue, IfOk, IfErr, false};
+ghost use Rattle.std.specs.Option.{option_copied};
 ghost use Rattle.keys.specs.Limits.{first_bad_field};
+ghost use Rattle.keys.specs.Range.{in_range};
 ghost use Rattle.keys.specs.declared.fault.Fault.TheVariants.{NoMemory};
 ghost use Rattle.mapping.specs.Levels.{contents};
 ghost use Rattle.flush_log.specs.Ends.{AreEnds};
@@ -150,5 +152,14 @@ impl<D: Disk> Store<D> {
         ensures { result ≡ min (length (contents self.now.store.tree)) (2 ^ 32 - 1) }
     {
         count(Rows::new(self.alloc, &self.tree, b"", None, u32::MAX))
+    }
+
+    /// Returns how many pairs have keys at or above `lo` and below `hi` (if given), or 4,294,967,295 if there are more.
+    /// Does not allocate. Walks over these pairs, as `range` does.
+    pub fn count(&self, lo: &[u8], hi: Option<&[u8]>) -> u64
+        ensures { result ≡ min (length (in_range lo.now (option_copied hi.entry)
+            (contents self.now.store.tree))) (2 ^ 32 - 1) }
+    {
+        count(self.rows(lo, hi, u32::MAX))
     }
 }

@@ -1,7 +1,8 @@
 //! Reads of the store by reference: a key, a range, a prefix.
-ghost use Rattle.std.specs.Prelude.{◌≡◌, map, Some, IsOk, IfOk, IfErr};
+ghost use Rattle.std.specs.Prelude.{◌≡◌, ◌+◌, ◌≤◌, length, map, Some, IsOk, IfOk, IfErr};
 ghost use Rattle.std.specs.Option.{option_copied};
 ghost use Rattle.keys.specs.Bytes.{Bytes};
+ghost use Rattle.keys.specs.Order.{IsRising};
 ghost use Rattle.keys.specs.OrderedMap.{value_at};
 ghost use Rattle.keys.specs.Range.{rows};
 ghost use Rattle.keys.specs.declared.fault.Fault.TheVariants.{NoMemory};
@@ -11,15 +12,18 @@ ghost use Rattle.index_page.specs.Page.PageOfKind.{Leaf};
 ghost use Rattle.mapping.specs.Levels.{contents};
 ghost use Rattle.mapping.specs.Tree.{page_at};
 ghost use Rattle.mapping.specs.TreeInMemory.{AreAllHome, tree_of};
+ghost use Rattle.replies.specs.ByPlace.{most_counted};
 ghost use Rattle.scan.specs.Back.{rows_back};
 ghost use Rattle.scan.specs.Prefix.{with_prefix};
 ghost use Rattle.engine.specs.SoundTree.{IsReadable};
 
+use crate::execute::pairs_can_be_counted;
 use crate::store::Store;
 use delta_chain::Chain;
 use flush_log::Disk;
-use keys::{Fault, Pid, Value};
+use keys::{Command, Fault, Pid, Value};
 use mapping::Tree;
+use mapping::laws::the_contents_of_a_proper_tree_rise;
 use scan::{Rows, RowsBack, value_in};
 use std::alloc::{AllocError, Global};
 
@@ -42,7 +46,15 @@ impl<D: Disk> Store<D> {
         ensures rows { IfOk result (λ left. left
             ≡ rows lo.now (option_copied hi.entry) limit (contents self.now.store.tree)) }
     {
-        Ok(Rows::new(self.alloc, &self.tree, lo, hi, limit))
+        Ok(self.rows(lo, hi, limit))
+    }
+
+    // Returns the pairs of `range`.
+    pub(crate) fn rows(&self, lo: &[u8], hi: Option<&[u8]>, limit: u32) -> Rows<'_>
+        ensures { result
+            ≡ rows lo.now (option_copied hi.entry) limit (contents self.now.store.tree) }
+    {
+        Rows::new(self.alloc, &self.tree, lo, hi, limit)
     }
 
     // Returns the pairs of `range` in a list. Fails only if allocation fails.
@@ -76,6 +88,16 @@ impl<D: Disk> Store<D> {
         ensures { result ≡ with_prefix bytes.now (contents self.now.store.tree) }
     {
         Rows::with_prefix(self.alloc, &self.tree, bytes)
+    }
+
+    // Shows that the pairs, even with one more per command, can be counted in 128 bits. Only for the proof.
+    pub(crate) fn pairs_fit(&self, commands: &[Command<Global>])
+        ensures fit { length (contents self.now.store.tree) + length commands.now
+            ≤ most_counted }
+        ensures rising { IsRising (contents self.now.store.tree) }
+    {
+        the_contents_of_a_proper_tree_rise();
+        pairs_can_be_counted(&self.settings, &self.tree, commands);
     }
 }
 

@@ -1,0 +1,361 @@
+//! A store with the arguments of its calls, and with the number of its pairs.
+ghost use Rattle.std.specs.Prelude.{◌≡◌, ◌-◌, ◌^◌, [], true, false, not, is_some, if◌then◌else◌, length, min, drop, reverse, slice_get, Err, IfOk, IfErr, MatchOption, OnOk, OnErr};
+ghost use Rattle.std.specs.Option.{option_copied, option_map};
+ghost use Rattle.keys.specs.OrderedMap.{value_at, with_pair, without};
+ghost use Rattle.keys.specs.Range.{in_range, out_of_range, rows};
+ghost use Rattle.keys.specs.declared.command.Command.TheVariants.{Put, Add, Del, Wipe};
+ghost use Rattle.keys.specs.declared.command.Reply.TheVariants.{New, Replaced, Added, Exists, Deleted, Missing, Wiped};
+ghost use Rattle.mapping.specs.Levels.{contents};
+ghost use Rattle.scan.specs.Back.{rows_back};
+ghost use Rattle.scan.specs.Prefix.{with_prefix};
+ghost use Rattle.engine.specs.Cleaning.{IsFlushedCleaning, IsStart, IsStoppedCleaning};
+ghost use Rattle.engine.specs.Handle.{IsCall, IsMade};
+ghost use Rattle.engine.specs.OneStep.{IsBatch};
+ghost use Rattle.engine.specs.Refusal.{is_crew};
+ghost use Rattle.engine.specs.State.{State};
+
+mod batch;
+mod tally;
+
+pub use crate::handle::batch::{Batch, Replies, Token};
+use crate::handle::batch::{is_new, was_deleted, wipe_command, wiped_count};
+use crate::handle::tally::pairs_after_all;
+use crate::refusal::admit_crew;
+use crate::store::Store;
+use crew::{Crew, NoGate};
+use flush_log::Disk;
+use keys::{Command, Fault, Key, Reply, Value};
+use scan::{Rows, RowsBack};
+use std::alloc::{AllocError, Global};
+use std::marker::Model;
+use std::thread::Threads;
+
+/// A store together with the runtime and the crew for its calls, and the number of its pairs: an ordered map of byte
+/// strings, with one call for each operation. `Store::with` makes it.
+///
+/// Reads return references into the store's pages. They do not allocate, and also work in a store that has failed.
+/// Writes change the map in memory. Only `flush` makes them durable; dropping a handle does not flush.
+///
+/// After an `Err` of any call but `flush` the map is unchanged. The writes `put`, `add`, `del`, `wipe`, `pop_first` and
+/// `execute` fail with:
+///
+/// - `Fault::NoMemory` if an allocation fails;
+/// - `Fault::Failed` if a call of the disk failed in an earlier flush or clean;
+/// - `Fault::KeyTooLong` or `Fault::ValueTooLong` if a key, a bound or a value is longer than the settings allow, with
+///   the place of the command in the batch, which is 0 for a call that takes one command;
+/// - `Fault::Spent` if the tree would have more than 64 levels.
+///
+/// Contracts see a handle as the `State` of its store.
+#[derive(Drop)]
+pub struct Handle<'r, R, D: Disk> {
+    rt: &'r R,
+    crew: Crew,
+    store: Store<D>,
+    // The number of pairs of the store.
+    pairs: u128,
+}
+
+impl<'r, R, D: Disk> Model for Handle<'r, R, D> {
+    ghost use Rattle.engine.specs.Handle.{IsHandle};
+    ghost use Rattle.engine.specs.State.{State};
+
+    ghost Value = { State D };
+
+    ghost view = { λ h. h.store };
+
+    ghost invariant = { λ h. IsHandle h.store h.crew h.pairs };
+}
+
+impl<D: Disk> Store<D> {
+    /// Returns a handle of this store, whose calls use this runtime and this crew. For batches of a few commands the
+    /// default crew, which is the calling thread alone, is fastest. Counts the pairs as `verify` does, in one walk over
+    /// the pages.
+    ///
+    /// Fails with `Fault::BadCrew` if the crew is out of range, and otherwise with `Fault::NoMemory` if an allocation
+    /// fails. The store is returned with the fault.
+    pub fn with<R: Threads + Sync>(
+        self,
+        rt: &R,
+        crew: Crew,
+    ) -> Result<Handle<'_, R, D>, (Fault, Store<D>)>
+        ensures { IsMade (is_crew crew) self result }
+    {
+        Handle::new(rt, crew, self)
+    }
+}
+
+impl<'r, R: Threads + Sync, D: Disk> Handle<'r, R, D> {
+    /// Does what `Store::with` does.
+    pub fn new(rt: &'r R, crew: Crew, store: Store<D>) -> Result<Self, (Fault, Store<D>)>
+        ensures { IsMade (is_crew crew) store result }
+    {
+        if let Err(fault) = admit_crew(crew) {
+            return Err((fault, store));
+        }
+        match store.verify(rt) {
+            Ok(report) => Ok(Handle {
+                rt,
+                crew,
+                store,
+                pairs: report.pairs,
+            }),
+            Err(fault) => Err((fault, store)),
+        }
+    }
+
+    /// Sets the value at the key, and returns whether the key was absent.
+    pub fn put(&mut self, key: &[u8], value: &[u8]) -> Result<bool, Fault>
+        ensures answer { IfOk result (λ was_absent. was_absent
+            ≡ not (is_some (value_at key.now (contents self.old.store.tree)))) }
+        ensures contents { OnOk result (contents self.new.store.tree
+            ≡ with_pair (contents self.old.store.tree) key.now value.now) }
+        ensures unchanged { OnErr result (self.new ≡ self.old) }
+        ensures call { IsCall D.view self.old (Put key.now value.now) result
+            (λ was_absent. if was_absent then New else Replaced) self.new }
+    {
+        let command = Command::put(self.alloc(), key, value)?;
+        let reply = self.execute_one(command)?;
+        Ok(is_new(&reply))
+    }
+
+    /// Sets the value at the key if the key is absent, and returns whether it was.
+    pub fn add(&mut self, key: &[u8], value: &[u8]) -> Result<bool, Fault>
+        ensures answer { IfOk result (λ was_absent. was_absent
+            ≡ not (is_some (value_at key.now (contents self.old.store.tree)))) }
+        ensures contents { IfOk result (λ was_absent. contents self.new.store.tree
+            ≡ (if was_absent then with_pair (contents self.old.store.tree) key.now value.now
+            else contents self.old.store.tree)) }
+        ensures unchanged { OnErr result (self.new ≡ self.old) }
+        ensures call { IsCall D.view self.old (Add key.now value.now) result
+            (λ was_absent. if was_absent then Added else Exists) self.new }
+    {
+        let command = Command::add(self.alloc(), key, value)?;
+        let reply = self.execute_one(command)?;
+        Ok(is_new(&reply))
+    }
+
+    /// Deletes the key, and returns whether it was present.
+    pub fn del(&mut self, key: &[u8]) -> Result<bool, Fault>
+        ensures answer { IfOk result (λ was_present. was_present
+            ≡ is_some (value_at key.now (contents self.old.store.tree))) }
+        ensures contents { OnOk result (contents self.new.store.tree
+            ≡ without (contents self.old.store.tree) key.now) }
+        ensures unchanged { OnErr result (self.new ≡ self.old) }
+        ensures call { IsCall D.view self.old (Del key.now) result
+            (λ was_present. if was_present then Deleted else Missing) self.new }
+    {
+        let command = Command::del(self.alloc(), key)?;
+        let reply = self.execute_one(command)?;
+        Ok(was_deleted(&reply))
+    }
+
+    /// Deletes all keys at or above `lo` and below `hi` (if given), and returns how many there were.
+    pub fn wipe(&mut self, lo: &[u8], hi: Option<&[u8]>) -> Result<u128, Fault>
+        ensures answer { IfOk result (λ count. count
+            ≡ length (in_range lo.now (option_copied hi.entry) (contents self.old.store.tree))) }
+        ensures contents { OnOk result (contents self.new.store.tree
+            ≡ out_of_range lo.now (option_copied hi.entry) (contents self.old.store.tree)) }
+        ensures unchanged { OnErr result (self.new ≡ self.old) }
+        ensures call { IsCall D.view self.old (Wipe lo.now (option_copied hi.entry)) result
+            (λ count. Wiped count) self.new }
+    {
+        let command = wipe_command(self.alloc(), lo, hi)?;
+        let reply = self.execute_one(command)?;
+        Ok(wiped_count(&reply))
+    }
+
+    /// Deletes the pair with the least key and returns it, or returns `None` if the map is empty.
+    pub fn pop_first(&mut self) -> Result<Option<(Key<Global>, Value<Global>)>, Fault>
+        ensures answer { IfOk result
+            (λ popped. popped ≡ slice_get (contents self.old.store.tree) 0) }
+        ensures contents { OnOk result
+            (contents self.new.store.tree ≡ drop 1 (contents self.old.store.tree)) }
+        ensures unchanged { OnErr result (self.new ≡ self.old) }
+        ensures call { MatchOption (slice_get (contents self.old.store.tree) 0)
+            (self.new ≡ self.old)
+            (λ pair. IsCall D.view self.old (Del pair.0) result (λ _. Deleted) self.new) }
+    {
+        let Some((key, value)) = self.copied_first()? else {
+            return Ok(None);
+        };
+        self.del(key.as_bytes())?;
+        Ok(Some((key, value)))
+    }
+
+    /// Executes the commands of the batch in order, all or none, and returns the replies, which are found by the tokens
+    /// of the batch. A batch of more than 65,535 commands fails with `Fault::BatchTooLong`.
+    pub fn execute(&mut self, batch: &Batch) -> Result<Replies, Fault>
+        ensures { IsBatch D.view true self.old batch.now result (λ replies. replies) self.new }
+    {
+        let replies = self.execute_all(batch.commands())?;
+        Ok(Replies::new(replies))
+    }
+
+    /// Makes all earlier writes durable, and returns the sequence number. Calls `Store::flush_cleaning`, which cleans the
+    /// log if it is tight or full, and has the same faults. A flush syncs the disk up to three times, so flush once
+    /// after many writes.
+    ///
+    /// After an `Err` the map in memory is unchanged. After `Fault::Full` the log is too small for the store: copy the
+    /// store to a larger disk. After `Fault::Device` the store has failed: reads still work, and `into_store` with
+    /// `Store::reopen` returns the store of the last flush or of this one.
+    pub fn flush(&mut self) -> Result<u64, Fault>
+        ensures number { IfOk result (λ n. n ≡ self.new.store.sequence) }
+        ensures flushed { IfOk result (λ _. (start : State D) × IsStart self.old start
+            × IsFlushedCleaning D.view D.failed start self.new) }
+
+        // Which fault, and what it leaves.
+        ensures failed { self.old.has_failed ≡ true →
+            (result ≡ Err Fault.Failed) × (self.new ≡ self.old) }
+        ensures refused { self.old.has_failed ≡ false →
+            IfErr result (λ fault. (start : State D) × IsStart self.old start
+            × IsStoppedCleaning D.view D.failed start self.new fault) }
+
+        // Whatever it returns.
+        ensures contents { contents self.new.store.tree ≡ contents self.old.store.tree }
+    {
+        self.store.flush_cleaning(self.rt, self.crew)
+    }
+
+    fn execute_one(&mut self, command: Command<Global>) -> Result<Reply<Global>, Fault>
+        ensures { IsCall D.view self.old command result (λ reply. reply) self.new }
+    {
+        let commands = vec![in self.alloc(); command]?;
+        let mut replies = self.execute_all(&commands)?;
+        match replies.pop() {
+            Some(reply) => Ok(reply),
+            None => unreachable!(),
+        }
+    }
+
+    fn execute_all(&mut self, commands: &[Command<Global>]) -> Result<Vec<Reply<Global>>, Fault>
+        ensures { IsBatch D.view true self.old commands.now result (λ replies. replies.items)
+            self.new }
+    {
+        // Only for the proof.
+        self.store.pairs_fit(commands);
+        let replies = self.store.batch(self.rt, self.crew, &NoGate, commands)?;
+        self.pairs = pairs_after_all(self.pairs, &replies);
+        Ok(replies)
+    }
+}
+
+impl<'r, R, D: Disk> Handle<'r, R, D> {
+    /// Returns the store.
+    pub fn store(&self) -> &Store<D>
+        ensures { result.now ≡ self.now }
+    {
+        &self.store
+    }
+
+    /// Drops the handle and returns its store. Does not flush.
+    pub fn into_store(self) -> Store<D>
+        ensures { result ≡ self.entry }
+    {
+        let Handle { store, .. } = self;
+        store
+    }
+
+    /// Returns an empty batch. Does not allocate.
+    pub fn new_batch(&self) -> Batch
+        ensures { result ≡ [] }
+    {
+        Batch::new(self.alloc())
+    }
+
+    /// Returns the value at the key, if there is one, borrowed from its page.
+    pub fn get(&self, key: &[u8]) -> Option<&[u8]>
+        ensures { option_copied result ≡ value_at key.now (contents self.now.store.tree) }
+    {
+        self.store.get(key)
+    }
+
+    /// Returns whether the map has this key.
+    pub fn contains_key(&self, key: &[u8]) -> bool
+        ensures { result ≡ is_some (value_at key.now (contents self.now.store.tree)) }
+    {
+        self.store.get(key).is_some()
+    }
+
+    /// Returns the number of pairs, in constant time.
+    pub fn len(&self) -> u128
+        ensures { result ≡ length (contents self.now.store.tree) }
+    {
+        self.pairs
+    }
+
+    /// Returns whether there are no pairs, in constant time.
+    pub fn is_empty(&self) -> bool
+        ensures yes { result ≡ true → contents self.now.store.tree ≡ [] }
+        ensures no { contents self.now.store.tree ≡ [] → result ≡ true }
+    {
+        self.pairs == 0
+    }
+
+    /// Returns the pair with the least key.
+    pub fn first(&self) -> Option<(&[u8], &[u8])>
+        ensures { option_map (λ pair. (pair.0.now, pair.1.now)) result
+            ≡ slice_get (contents self.now.store.tree) 0 }
+    {
+        self.store.rows(b"", None, 1).next()
+    }
+
+    /// Returns the pair with the greatest key.
+    pub fn last(&self) -> Option<(&[u8], &[u8])>
+        ensures { option_map (λ pair. (pair.0.now, pair.1.now)) result
+            ≡ slice_get (reverse (contents self.now.store.tree)) 0 }
+    {
+        self.store.range_back(b"", None, 1).next()
+    }
+
+    /// Returns the pairs whose keys are at or above `lo` and below `hi` (if given), in key order. The bounds may have
+    /// any length, and are not borrowed by the rows. For the first `n` pairs write `range(lo, hi).take(n)`. The rows end
+    /// after 4,294,967,295 pairs.
+    pub fn range(&self, lo: &[u8], hi: Option<&[u8]>) -> Rows<'_>
+        ensures { result ≡ rows lo.now (option_copied hi.entry) (2 ^ 32 - 1)
+            (contents self.now.store.tree) }
+    {
+        self.store.rows(lo, hi, u32::MAX)
+    }
+
+    /// Returns the pairs of `range` from the greatest key down. Here too the rows end after 4,294,967,295 pairs.
+    pub fn range_back(&self, lo: &[u8], hi: Option<&[u8]>) -> RowsBack<'_>
+        ensures { result ≡ rows_back lo.now (option_copied hi.entry) (2 ^ 32 - 1)
+            (contents self.now.store.tree) }
+    {
+        self.store.range_back(lo, hi, u32::MAX)
+    }
+
+    /// Returns the pairs whose keys begin with these bytes, in key order: all pairs if there are no bytes.
+    pub fn prefix(&self, bytes: &[u8]) -> Rows<'_>
+        ensures { result ≡ with_prefix bytes.now (contents self.now.store.tree) }
+    {
+        self.store.prefix(bytes)
+    }
+
+    /// Returns how many pairs have keys at or above `lo` and below `hi` (if given), or 4,294,967,295 if there are more.
+    /// Walks over these pairs and copies nothing.
+    pub fn count(&self, lo: &[u8], hi: Option<&[u8]>) -> u64
+        ensures { result ≡ min (length (in_range lo.now (option_copied hi.entry)
+            (contents self.now.store.tree))) (2 ^ 32 - 1) }
+    {
+        self.store.count(lo, hi)
+    }
+
+    fn alloc(&self) -> Global {
+        self.store.alloc()
+    }
+
+    // Returns a copy of the pair with the least key.
+    fn copied_first(&self) -> Result<Option<(Key<Global>, Value<Global>)>, AllocError>
+        ensures { IfOk result (λ pair. pair ≡ slice_get (contents self.now.store.tree) 0) }
+    {
+        match self.first() {
+            Some((key, value)) => {
+                let key = Key::from_bytes(self.alloc(), key)?;
+                let value = Value::from_bytes(self.alloc(), value)?;
+                Ok(Some((key, value)))
+            }
+            None => Ok(None),
+        }
+    }
+}

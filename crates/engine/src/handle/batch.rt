@@ -1,0 +1,285 @@
+//! Batches that are built command by command, and their replies.
+ghost use Rattle.std.specs.Prelude.{◌≡◌, [], slice_get, false, None, IfOk, MatchOption, OnErr};
+ghost use Rattle.std.specs.Option.{option_copied};
+ghost use Rattle.keys.specs.declared.command.Command.TheVariants.{Get, Put, Add, Del, Scan, Wipe};
+ghost use Rattle.engine.specs.Tokens.{IsAdded, is_new, was_deleted, value_of, rows_of, wiped_count};
+
+use keys::{Command, Key, Reply, RowList};
+use std::alloc::{AllocError, Global};
+use std::marker::Model;
+
+/// A list of commands that `Handle::execute` executes together, all or none. Each call that adds a command returns a
+/// token, with which `Replies` finds the reply to this command. A batch can be executed several times.
+///
+/// A call that adds a command copies its keys and its value. If an allocation fails, it returns `AllocError`, and the
+/// batch is unchanged. The lengths of keys and values are checked when the batch is executed.
+///
+/// Contracts see a batch as the list of its commands.
+#[derive(Drop)]
+pub struct Batch {
+    alloc: Global,
+    commands: Vec<Command<Global>>,
+}
+
+/// Identifies a command of a batch. Contracts see it as the command's place in the batch.
+#[derive(Clone, Copy, Debug, PartialEq, Eq)]
+pub struct Token {
+    place: usize,
+}
+
+impl Model for Batch {
+    ghost use Rattle.std.specs.Prelude.{List};
+    ghost use Rattle.std.specs.declared.alloc.Global.{Global};
+    ghost use Rattle.keys.specs.declared.command.Command.{Command};
+
+    ghost Value = { List (Command Global) };
+
+    ghost view = { λ b. b.commands.items };
+}
+
+impl Model for Token {
+    ghost use Rattle.std.specs.Prelude.{ℕ};
+
+    ghost Value = { ℕ };
+
+    ghost view = { λ t. t.place };
+
+    ghost inverse = { λ n. record { place = n } };
+}
+
+impl Batch {
+    /// Returns an empty batch. Does not allocate.
+    pub fn new(alloc: Global) -> Self
+        ensures { result ≡ [] }
+    {
+        Batch {
+            alloc,
+            commands: Vec::new(alloc),
+        }
+    }
+
+    /// Returns the commands in the order in which they were added.
+    pub fn commands(&self) -> &[Command<Global>]
+        ensures { result.now ≡ self.now }
+    {
+        &self.commands
+    }
+
+    /// Adds a command that the caller made.
+    pub fn push(&mut self, command: Command<Global>) -> Result<Token, AllocError>
+        ensures added { IfOk result (IsAdded self.old self.new command) }
+        ensures unchanged { OnErr result (self.new ≡ self.old) }
+    {
+        let place = self.commands.len();
+        self.commands.push(command)?;
+        Ok(Token { place })
+    }
+
+    /// Adds a `Command::Get`. `Replies::value` returns the value at the key.
+    pub fn get(&mut self, key: &[u8]) -> Result<Token, AllocError>
+        ensures added { IfOk result (IsAdded self.old self.new (Get key.now)) }
+        ensures unchanged { OnErr result (self.new ≡ self.old) }
+    {
+        let command = Command::get(self.alloc, key)?;
+        self.push(command)
+    }
+
+    /// Adds a `Command::Put`, which sets the value at the key. `Replies::is_new` returns whether the key was absent.
+    pub fn put(&mut self, key: &[u8], value: &[u8]) -> Result<Token, AllocError>
+        ensures added { IfOk result (IsAdded self.old self.new (Put key.now value.now)) }
+        ensures unchanged { OnErr result (self.new ≡ self.old) }
+    {
+        let command = Command::put(self.alloc, key, value)?;
+        self.push(command)
+    }
+
+    /// Adds a `Command::Add`, which sets the value at the key if the key is absent. `Replies::is_new` returns whether
+    /// the key was absent.
+    pub fn add(&mut self, key: &[u8], value: &[u8]) -> Result<Token, AllocError>
+        ensures added { IfOk result (IsAdded self.old self.new (Add key.now value.now)) }
+        ensures unchanged { OnErr result (self.new ≡ self.old) }
+    {
+        let command = Command::add(self.alloc, key, value)?;
+        self.push(command)
+    }
+
+    /// Adds a `Command::Del`, which deletes the key. `Replies::was_deleted` returns whether the key was present.
+    pub fn del(&mut self, key: &[u8]) -> Result<Token, AllocError>
+        ensures added { IfOk result (IsAdded self.old self.new (Del key.now)) }
+        ensures unchanged { OnErr result (self.new ≡ self.old) }
+    {
+        let command = Command::del(self.alloc, key)?;
+        self.push(command)
+    }
+
+    /// Adds a `Command::Scan`, which reads the first `limit` pairs whose keys are at or above `lo` and below `hi` (if
+    /// given). `Replies::rows` returns them.
+    pub fn scan(&mut self, lo: &[u8], hi: Option<&[u8]>, limit: u32) -> Result<Token, AllocError>
+        ensures added { IfOk result
+            (IsAdded self.old self.new (Scan lo.now (option_copied hi.entry) limit)) }
+        ensures unchanged { OnErr result (self.new ≡ self.old) }
+    {
+        let command = scan_command(self.alloc, lo, hi, limit)?;
+        self.push(command)
+    }
+
+    /// Adds a `Command::Wipe`, which deletes all keys at or above `lo` and below `hi` (if given). `Replies::wiped`
+    /// returns how many keys there were.
+    pub fn wipe(&mut self, lo: &[u8], hi: Option<&[u8]>) -> Result<Token, AllocError>
+        ensures added { IfOk result
+            (IsAdded self.old self.new (Wipe lo.now (option_copied hi.entry))) }
+        ensures unchanged { OnErr result (self.new ≡ self.old) }
+    {
+        let command = wipe_command(self.alloc, lo, hi)?;
+        self.push(command)
+    }
+}
+
+fn scan_command(
+    alloc: Global,
+    lo: &[u8],
+    hi: Option<&[u8]>,
+    limit: u32,
+) -> Result<Command<Global>, AllocError>
+    ensures { IfOk result (λ command. command ≡ Scan lo.now (option_copied hi.entry) limit) }
+{
+    let lo = Key::from_bytes(alloc, lo)?;
+    let hi = copied_bound(alloc, hi)?;
+    Ok(Command::Scan(lo, hi, limit))
+}
+
+pub(crate) fn wipe_command(
+    alloc: Global,
+    lo: &[u8],
+    hi: Option<&[u8]>,
+) -> Result<Command<Global>, AllocError>
+    ensures { IfOk result (λ command. command ≡ Wipe lo.now (option_copied hi.entry)) }
+{
+    let lo = Key::from_bytes(alloc, lo)?;
+    let hi = copied_bound(alloc, hi)?;
+    Ok(Command::Wipe(lo, hi))
+}
+
+fn copied_bound(alloc: Global, hi: Option<&[u8]>) -> Result<Option<Key<Global>>, AllocError>
+    ensures { IfOk result (λ bound. bound ≡ option_copied hi.entry) }
+{
+    match hi {
+        Some(hi) => Ok(Some(Key::from_bytes(alloc, hi)?)),
+        None => Ok(None),
+    }
+}
+
+/// The replies to the commands of a batch, which are found by the tokens of this batch. If the token belongs to another
+/// batch, or to a command of another kind than the call is for, the call returns `None`, `false` or 0, or the reply to
+/// another command.
+///
+/// Contracts see the list of the replies.
+#[derive(Drop)]
+pub struct Replies {
+    replies: Vec<Reply<Global>>,
+}
+
+impl Model for Replies {
+    ghost use Rattle.std.specs.Prelude.{List};
+    ghost use Rattle.std.specs.declared.alloc.Global.{Global};
+    ghost use Rattle.keys.specs.declared.command.Reply.{Reply};
+
+    ghost Value = { List (Reply Global) };
+
+    ghost view = { λ r. r.replies.items };
+}
+
+impl Replies {
+    // The replies must be in the order of their commands.
+    pub(crate) fn new(replies: Vec<Reply<Global>>) -> Self
+        ensures { result ≡ replies.items }
+    {
+        Replies { replies }
+    }
+
+    /// Returns the reply to the command of this token.
+    pub fn reply(&self, token: Token) -> Option<&Reply<Global>>
+        ensures { option_copied result ≡ slice_get self.now token }
+    {
+        self.replies.get(token.place)
+    }
+
+    /// Returns the value that a `Command::Get` found, or `None` if the key was absent.
+    pub fn value(&self, token: Token) -> Option<&[u8]>
+        ensures { MatchOption (slice_get self.now token) (result ≡ None)
+            (λ reply. option_copied result ≡ value_of reply) }
+    {
+        match self.reply(token) {
+            Some(Reply::Value(value)) => Some(value.as_bytes()),
+            _ => None,
+        }
+    }
+
+    /// Returns whether a `Command::Put` or a `Command::Add` found the key absent.
+    pub fn is_new(&self, token: Token) -> bool
+        ensures { MatchOption (slice_get self.now token) (result ≡ false)
+            (λ reply. result ≡ is_new reply) }
+    {
+        match self.reply(token) {
+            Some(reply) => is_new(reply),
+            None => false,
+        }
+    }
+
+    /// Returns whether a `Command::Del` found the key present.
+    pub fn was_deleted(&self, token: Token) -> bool
+        ensures { MatchOption (slice_get self.now token) (result ≡ false)
+            (λ reply. result ≡ was_deleted reply) }
+    {
+        match self.reply(token) {
+            Some(reply) => was_deleted(reply),
+            None => false,
+        }
+    }
+
+    /// Returns the pairs that a `Command::Scan` found, in key order.
+    pub fn rows(&self, token: Token) -> Option<&RowList<Global>>
+        ensures { MatchOption (slice_get self.now token) (result ≡ None)
+            (λ reply. option_copied result ≡ rows_of reply) }
+    {
+        match self.reply(token) {
+            Some(Reply::Rows(rows)) => Some(rows),
+            _ => None,
+        }
+    }
+
+    /// Returns how many keys a `Command::Wipe` deleted.
+    pub fn wiped(&self, token: Token) -> u128
+        ensures { MatchOption (slice_get self.now token) (result ≡ 0)
+            (λ reply. result ≡ wiped_count reply) }
+    {
+        match self.reply(token) {
+            Some(reply) => wiped_count(reply),
+            None => 0,
+        }
+    }
+}
+
+// Whether a put or an add found the key absent.
+pub(crate) fn is_new(reply: &Reply<Global>) -> bool
+    ensures { result ≡ is_new reply.now }
+{
+    matches!(reply, Reply::New | Reply::Added)
+}
+
+// Whether a del found the key present.
+pub(crate) fn was_deleted(reply: &Reply<Global>) -> bool
+    ensures { result ≡ was_deleted reply.now }
+{
+    matches!(reply, Reply::Deleted)
+}
+
+// How many keys a wipe deleted.
+pub(crate) fn wiped_count(reply: &Reply<Global>) -> u128
+    ensures { result ≡ wiped_count reply.now }
+{
+    match reply {
+        Reply::Wiped(count) => *count,
+        _ => 0,
+    }
+}
