@@ -22,6 +22,7 @@ mod CopyDone
 mod CopyLemmas
 mod CreateLemmas
 mod Crossing
+mod DurableLemmas
 mod EarlyLemmas
 mod EndedRoutes
 mod Executed
@@ -67,5 +68,7 @@ mod StepsLemmas
 mod TaskLemmas
 mod TextSteps
 mod TidyLemmas
+mod UndoAdmitted
+mod UndoLemmas
 mod UnfinishedLemmas
 mod Verified

@@ -7,6 +7,7 @@ pub mod Cleaning
 pub mod Cleans
 pub mod Compacted
 pub mod Copies
+pub mod Durable
 pub mod FileStore
 pub mod Handle
 pub mod Hidden
@@ -28,3 +29,4 @@ pub mod Tasks
 pub mod Tidied
 pub mod Tokens
 pub mod Turns
+pub mod Undo

@@ -7,7 +7,7 @@ use keys::{Command, Fault, Key, Settings, Value};
 use std::alloc::Global;
 
 // The most commands that a batch may have.
-const LONGEST_BATCH: usize = 65_535;
+pub(crate) const LONGEST_BATCH: usize = 65_535;
 
 // Refuses a crew out of range.
 pub(crate) fn admit_crew(crew: Crew) -> Result<(), Fault>
