@@ -188,7 +188,7 @@ honest_nothing {D = D} view v f disk is kept honest = subst (λ (g : Found D). I
 -- ---- why there is none
 
 -- if a call of the disk failed, there is a reason
-abbrev IsReported : Fault → Option Error → OpenFault → Type 0
+abbrev pub IsReported : Fault → Option Error → OpenFault → Type 0
 IsReported fault reason reported = ((fault ≡ Device) × MatchOption reason (reported ≡ open_fault.Store fault) (λ r. reported ≡ open_fault.File r)) ⊎ ((fault ≢ Device) × (reported ≡ open_fault.Store fault))
 
 -- the bytes of the file have the fault

@@ -43,6 +43,7 @@ mod OneKey
 mod OneLeaf
 mod OneStepLemmas
 mod OpenedLemmas
+mod OpeningLemmas
 mod OutdatedTables
 mod OwnRuns
 mod PairCounts

@@ -16,6 +16,7 @@ pub mod Leaves
 pub mod OneStep
 pub mod OnlyRoute
 pub mod Opened
+pub mod Opening
 pub mod Pending
 pub mod Plays
 pub mod Refusal

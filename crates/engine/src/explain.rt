@@ -53,6 +53,7 @@ pub fn file_remedy(reason: &io::Error) -> &'static str {
     match reason.kind() {
         ErrorKind::ReadOnlyFilesystem => "A session can only read the store there.",
         ErrorKind::WouldBlock => "Another program has locked the file. Wait until it ends.",
+        ErrorKind::AlreadyExists => "A new store needs a path without a file.",
         ErrorKind::StorageFull => "Free some space on its device.",
         ErrorKind::IsADirectory => "A store has to be a file.",
         _ => "",

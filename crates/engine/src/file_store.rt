@@ -68,7 +68,7 @@ impl From<io::Error> for OpenFault {
 }
 
 // The error for this fault: if a call of the disk failed, the reason of that failure.
-fn with_reason(fault: Fault, reason: Option<io::Error>) -> OpenFault
+pub(crate) fn with_reason(fault: Fault, reason: Option<io::Error>) -> OpenFault
     ensures { ((fault ≡ Fault.Device)
         × MatchOption reason (result ≡ OpenFault.Store fault) (λ r. result ≡ OpenFault.File r))
         ⊎ ((fault ≢ Fault.Device) × (result ≡ OpenFault.Store fault)) }
@@ -83,7 +83,7 @@ fn with_reason(fault: Fault, reason: Option<io::Error>) -> OpenFault
 }
 
 /// A disk over a file.
-trait DiskOfFile: Disk + Drop {
+pub(crate) trait DiskOfFile: Disk + Drop {
     /// Replaces the contents of the file by `len` zeros.
     fn erased(self, len: u64) -> io::Result<Self>
         ensures size { IfOk result (λ disk. (Self.view disk).size ≡ len) }
@@ -108,7 +108,7 @@ impl<F: Read + Write + Seek + OpenFile + LockFile + Drop> DiskOfFile for FileDis
 }
 
 // Creates a store on the disk, which is erased first. If that fails, the disk is emptied.
-fn new_store<D: DiskOfFile>(
+pub(crate) fn new_store<D: DiskOfFile>(
     alloc: Global,
     disk: D,
     settings: Settings,
@@ -191,7 +191,7 @@ fn find_store<D: Disk>(
 
 // The store in a locked file: a new one if the file is empty or has an unfinished store, and otherwise the one that its
 // bytes encode.
-fn store_of<D: DiskOfFile>(
+pub(crate) fn store_of<D: DiskOfFile>(
     rt: &(impl AllocGlobal + Threads + Sync),
     crew: Crew,
     disk: D,

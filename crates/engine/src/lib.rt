@@ -13,6 +13,7 @@ mod hidden_disk;
 pub mod laws;
 mod leaf_tasks;
 mod leaves;
+mod options;
 mod ordered_store;
 mod reads;
 mod refusal;
@@ -24,6 +25,7 @@ mod unfinished;
 pub use crate::explain::{ExplainedFault, ExplainedOpenFault, file_remedy, meaning, remedy};
 pub use crate::file_store::{OpenFault, open_or_create};
 pub use crate::handle::{Batch, Handle, Replies, Token};
+pub use crate::options::{Access, Creation, OpenError, Options, create_disk};
 pub use crate::ordered_store::{
     OrderedStore, SnapshotDisk, SnapshotStore, play, put_then_get, put_then_get_in_memory,
     put_twice_then_get,
