@@ -98,12 +98,12 @@ due-of {D = D} text s x y same own due is upgrades =
     record { own = here; due = there; some = writes-some text s x.store here there is.proper upgrades }
 
 -- Until it is committed it isn't seen.
-abbrev Hides : CommitKind → Settings → Store → Store → List ℕ → List ℕ → List ℕ → Type 0
+abbrev pub Hides : CommitKind → Settings → Store → Store → List ℕ → List ℕ → List ℕ → Type 0
 Hides text s st now file bytes c =
     HasFrames s text st.tree → commit_frames text st.tree ≢ [] → after_writing text s st file ≡ Ok (now, bytes)
     → IsUncommitted s (suc st.sequence) (spans s st.tail (commit_frames text st.tree)) file c → store_of_disk c ≡ store_of_disk file
 
-abbrev HidesWriting : CommitKind → Type 0
+abbrev pub HidesWriting : CommitKind → Type 0
 HidesWriting text = (s : Settings) (st now : Store) (file bytes c : List ℕ) → IsStoreOf s st file → IsOwnText text st → Hides text s st now file bytes c
 
 pub hides : ((s : Settings) (st now : Store) (file bytes c : List ℕ) → IsStoreOf s st file → Hides (texts.Flush st.version) s st now file bytes c)

@@ -64,6 +64,7 @@ pub mod RowsLemmas
 mod RunRoutes
 mod SeenLeaves
 mod SnapshotLemmas
+mod SplitLemmas
 mod StepDone
 mod StepsLemmas
 mod TaskLemmas

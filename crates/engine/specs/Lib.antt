@@ -23,6 +23,7 @@ pub mod Refusal
 pub mod Room
 pub mod Snapshots
 pub mod SoundTree
+pub mod SplitFlush
 pub mod State
 pub mod Steps
 pub mod StoreClaim

@@ -31,7 +31,7 @@ pub use crate::ordered_store::{
     put_twice_then_get,
 };
 pub use crate::step::{Answer, Step};
-pub use crate::store::{Store, Unwritten};
+pub use crate::store::{BegunFlush, Store, StoreInMemory, Unwritten, WrittenFlush};
 pub use crate::unfinished::is_unfinished;
 pub use crew::{BadCrew, Crew, Gate, NoGate};
 pub use flush_log::{

@@ -19,6 +19,7 @@ mod play;
 mod reads;
 mod reopen;
 mod room;
+mod split_flush;
 mod tidy;
 mod upgrade;
 
@@ -27,6 +28,7 @@ use crate::laws::a_batch_stays_in_step;
 use crate::refusal::{admit, admit_crew};
 use crate::store::creation::{create_hidden, reveal_store};
 pub use crate::store::durable::Unwritten;
+pub use crate::store::split_flush::{BegunFlush, StoreInMemory, WrittenFlush};
 use crew::{Crew, Gate};
 use flush_log::{Disk, LogEnds};
 use keys::{Command, Fault, Reply, Settings, Version};

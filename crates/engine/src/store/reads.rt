@@ -110,7 +110,7 @@ fn listed<'a>(alloc: Global, rows: Rows<'a>) -> Result<Vec<(&'a [u8], &'a [u8])>
 }
 
 // The value that the tree has at the key.
-fn value_of<'a>(tree: &'a Tree<Global>, key: &[u8]) -> Option<&'a [u8]>
+pub(super) fn value_of<'a>(tree: &'a Tree<Global>, key: &[u8]) -> Option<&'a [u8]>
     requires readable { IsReadable tree.now }
     ensures { option_copied result ≡ value_at key.now (contents (tree_of tree.now)) }
 {
