@@ -3,7 +3,7 @@
 functions in `bodies`, whose form `checks/bodies.py` describes. The plan uses the crate `keys`, whose library the gate has built (or `rt ci`).
 
     server/prove.py [--text | --plan]       # --text: the text layer alone; --plan: also the buffers and the plan; without both: also peers and rounds
-    server/prove.py --laws                  # the law of a server's life, over the libraries of the engine and of all crates below it
+    server/prove.py --store                 # the layer of the store and the law above it, over the libraries of the engine and of all crates below it
     server/prove.py --plan --only plan::requests::read     # only these functions, without the broken ones
 """
 
@@ -81,7 +81,8 @@ PEER = Part(("peer",), ("Next", "Taking"), ("Nexts", "Taking"), ())
 ROUND = Part(("round",), ("Answering", "Answers", "Round"), ("Counting", "Rounds", "Turns", "Used", "Waiting"), ("slab",))
 PLANS = TEXT.and_(BUFFERS).and_(PLAN)
 ALL = PLANS.and_(PEER).and_(ROUND)
-LAW = "laws::rounds_are_a_play"
+# The layer of the store, and the law of a server's life, which speak of the engine.
+STORE = Part(("counters", "store", "laws"), ("Life", "Stored"), ("Lives", "StoredLemmas"), ())
 
 
 def read_crates() -> dict[str, list[str]]:
@@ -96,16 +97,16 @@ def crates_up_to(crates: dict[str, list[str]], name: str) -> list[str]:
     return list(dict.fromkeys([*below, name]))
 
 
-def laws() -> Part:
-    """Returns all layers, and the law above them that speaks of the engine."""
+def with_store() -> Part:
+    """Returns all layers, with those that speak of the engine."""
     engine = tuple(crate for crate in crates_up_to(read_crates(), "engine") if crate not in ALL.crates)
-    return ALL.and_(Part(("laws",), ("Life",), ("Lives",), (), engine))
+    return ALL.and_(dataclasses.replace(STORE, crates=engine))
 
 
-def refuses_broken(workspace: Path, part: Part) -> bool:
+def refuses_broken(workspace: Path, layers: tuple[str, ...]) -> bool:
     """Returns whether the prover refuses each broken function of these layers, and accepts the controls. Prints the verdicts."""
     edits = [dataclasses.replace(bodies.read_edit(path), crate=CRATE) for path in sorted(HERE.glob("bodies/*.edit"))]
-    verdicts = bodies.check_crate(kit.Workspace(workspace), [edit for edit in edits if edit.function.split("::")[0] in part.layers])
+    verdicts = bodies.check_crate(kit.Workspace(workspace), [edit for edit in edits if edit.function.split("::")[0] in layers])
     print("\n".join(map(str, verdicts)), flush=True)
     return all(verdict.wrong is None for verdict in verdicts)
 
@@ -121,14 +122,15 @@ def main() -> None:
     parser = argparse.ArgumentParser(description=__doc__, formatter_class=argparse.RawDescriptionHelpFormatter)
     parser.add_argument("--text", action="store_true", help="prove the text layer alone")
     parser.add_argument("--plan", action="store_true", help="prove the text layer, the buffers and the plan")
-    parser.add_argument("--laws", action="store_true", help="prove the law that speaks of the engine alone")
+    parser.add_argument("--store", action="store_true", help="prove the layers that speak of the engine alone")
     parser.add_argument("--only", nargs="+", default=[], metavar="PATH", help="prove these functions alone")
     options = parser.parse_args()
-    part = TEXT if options.text else PLANS if options.plan else laws() if options.laws else ALL
-    only = [LAW] if options.laws else options.only
+    part = TEXT if options.text else PLANS if options.plan else with_store() if options.store else ALL
+    layers = STORE.layers if options.store else part.layers
+    only = options.only or (list(layers) if options.store else [])
     with tempfile.TemporaryDirectory() as folder:
         crate = part.copy(Path(folder))
-        is_right = is_proved(Path(folder), crate, only) and (bool(only) or refuses_broken(Path(folder), part))
+        is_right = is_proved(Path(folder), crate, only) and (bool(options.only) or refuses_broken(Path(folder), layers))
     sys.exit(not is_right)
 
 

@@ -26,7 +26,7 @@ use Rattle.engine.specs.OneStep.{IsOnlyRead}
 use Rattle.engine.specs.Plays.{IsStepDone, IsStepFault, IsLeftInStep, answer_of}
 use Rattle.engine.specs.Room.{is_overfull, live_known}
 use Rattle.engine.specs.State.{State, IsSound}
-use Rattle.engine.specs.Steps.{Step, Answer, Stepped, after_step, batching, plays}
+use Rattle.engine.specs.Steps.{Step, Answer, NumbersFit, Stepped, after_step, batching, plays}
 use Rattle.engine.specs.Steps.Step.{Flush, Clean}
 use Rattle.engine.specs.Steps.Answer.{Flushed}
 use Rattle.engine.specs.declared.step.Answer as code_answer
@@ -217,6 +217,7 @@ module _ {D : Type 0} (view : D → View) (failures : D → ℕ) (lawful : (disk
         device = λ device. r.device (want_device why fault want device);
         step = Clean;
         why = (file, shown, inr (refl, room, full_or file, why, want, is));
+        words = λ _. tt;
         crash = r.crash;
       }
 
@@ -302,11 +303,17 @@ module _ {D : Type 0} (view : D → View) (failures : D → ℕ) (lawful : (disk
       all_done : {X : Type 0} → (left : ℕ) → left ≡ 0 → count_of rows + left ≡ old.settings.segments → (count_of rows ≡ old.settings.segments) ⊎ X
       all_done left none sum = inl (omega (arith, none, sum))
 
+      -- its numbers fit, as those of the store before it did
+      fit_now : NumbersFit {A = Global} (batching cur.settings) cur.settings cur.store Flush → NumbersFit {A = Global} (batching old.settings) old.settings next.store Flush
+      fit_now fit =
+          subst (λ (st : Store). NumbersFit {A = Global} (batching old.settings) old.settings st Flush) (sym unchanged)
+          (subst (λ (s : Settings). NumbersFit {A = Global} (batching s) s cur.store Flush) are.done.turn.settings fit)
+
       -- and no clean is left, or it was refused otherwise
       pub stopped_flush : (fault : Fault) (left : ℕ) → count_of rows + left ≡ old.settings.segments
           → (fault ≢ Device → (next.has_failed ≡ cur.has_failed) × (failures next.disk ≡ failures cur.disk))
           → (IsTrue (view cur.disk).is_honest → fault ≢ Device → Same (view cur.disk) (view next.disk))
-          → (fault ≡ Device → next.has_failed ≡ true)
+          → (fault ≡ Device → (next.has_failed ≡ true) × NumbersFit {A = Global} (batching cur.settings) cur.settings cur.store Flush)
           → CrashIn Flush
           → FaultIn Flush fault
           → (fault ≡ Full → left ≡ 0)
@@ -330,9 +337,10 @@ module _ {D : Type 0} (view : D → View) (failures : D → ℕ) (lawful : (disk
             tree = ap (λ (x : Store). x.tree) unchanged ∙ done.tree;
             rest = (rest.0 ∙ done.turn.settings, kept_then (view old.disk) (view cur.disk) (view next.disk) done.turn.kept rest.1);
             turn = λ other. stays view failures lawful old (cleans (count_of rows)) done.said cur done.turn next rest unchanged (counted other) (λ honest. same honest other) sound;
-            device = device;
+            device = λ is. (device is).0;
             step = Flush;
             why = (file, shown, inl (refl, why));
+            words = λ is. fit_now (device is).1;
             crash = λ fine was. crash_on view failures lawful old (cleans (count_of rows)) done.said cur done.turn next Flush crash fine was;
           }
 
@@ -370,6 +378,7 @@ module _ {D : Type 0} (view : D → View) (failures : D → ℕ) (lawful : (disk
           device = λ device. absurd (other device);
           step = Flush;
           why = (file, λ honest. shown (subst IsTrue (sym done.turn.kept.honest) honest) ∙ done.turn.bytes honest, inl (refl, why));
+          words = λ device. absurd (other device);
           crash = λ fine was. crash_on view failures lawful old (cleans (count_of rows)) are.done.said cur are.done.turn next Flush
               (λ _ is_synced. leaves_the_same (view cur.disk) (view next.disk) _ (lawful cur.disk is_synced.honest) (only.same is_synced.honest) is_synced (inl refl)) fine was;
         }

@@ -174,6 +174,7 @@ module _ {D : Type 0} (view : D → View) (failures : D → ℕ) (lawful : (disk
         device = λ e. absurd (cc);
         step = Flush;
         why = ((view old.disk).seen, λ honest. done.turn.bytes honest, inl (refl, inr (inl (refl, due))));
+        words = λ e. absurd (cc);
         crash = λ fine was. crash_on view failures lawful old (cleans 0) done.said old done.turn old Flush
             (λ _ is_synced. leaves_the_same (view old.disk) (view old.disk) _ (lawful old.disk is_synced.honest) (only.same is_synced.honest) is_synced (inl refl)) fine was;
       }

@@ -7,6 +7,7 @@ mod BatchLeaves
 mod BlankAnswers
 mod ClaimCleaned
 mod ClaimCreated
+mod ClaimFlushed
 mod ClaimOpened
 mod ClaimPlayLemmas
 mod ClaimWritten

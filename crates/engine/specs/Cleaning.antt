@@ -18,7 +18,7 @@ use Rattle.engine.specs.Compacted.{IsCompacted}
 use Rattle.engine.specs.Plays.{IsPlayed, IsPlayedOn, IsStepDone, IsStepFault}
 use Rattle.engine.specs.Room.{is_bloated, is_overfull, is_tight, is_two_thirds_full, is_worth, live_known}
 use Rattle.engine.specs.State.{State}
-use Rattle.engine.specs.Steps.{Answer, Step, StandsAfterSome, after_step, batching, plays}
+use Rattle.engine.specs.Steps.{Answer, NumbersFit, Step, StandsAfterSome, after_step, batching, plays}
 use Rattle.engine.specs.Steps.Step.{Flush, Clean}
 use Rattle.engine.specs.Turns.{IsTurn}
 use Rattle.engine.specs.declared.step.Answer as code_answer
@@ -183,6 +183,8 @@ pub record IsStoppedCleaning {D : Type 0} (view : D → View) (failures : D → 
   pub step : Step Global
   pub why : (file : Bytes) × (IsTrue (view old.disk).is_honest → file ≡ (plays (batching old.settings) old.settings old.store (view old.disk).seen (cleans (count_of rows))).bytes)
       × IsStop old.settings now.store file (failures old.disk) (failures now.disk) (count_of rows) step fault
+  -- if a call of the disk failed in the step, its numbers have 64 bits
+  pub words : fault ≡ Device → NumbersFit (batching old.settings) old.settings now.store step
   -- a crash at any moment leaves the store after some of all these steps
   pub crash : old.has_failed ≡ false → IsSynced (view old.disk)
       → LeavesOnly (view old.disk) (view now.disk) (StandsAfterSome (batching old.settings) old.settings old.store (view old.disk).seen (cleans (count_of rows) ++ step ∷ []))

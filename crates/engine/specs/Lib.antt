@@ -2,6 +2,7 @@ pub mod Batch
 pub mod Batches
 pub mod Calls
 pub mod Claim
+pub mod ClaimFlush
 pub mod ClaimPlay
 pub mod Cleaning
 pub mod Cleans

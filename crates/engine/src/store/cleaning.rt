@@ -3,6 +3,7 @@ ghost use Rattle.std.specs.Prelude.{◌≡◌, ◌≢◌, ◌⊎◌, ◌↔◌, 
 ghost use Rattle.flush_log.specs.FlushText.{flush_frames};
 ghost use Rattle.keys.specs.declared.fault.Fault.TheVariants.{NoMemory};
 ghost use Rattle.mapping.specs.Levels.{contents};
+ghost use Rattle.engine.specs.ClaimFlush.{MakesDurable};
 ghost use Rattle.engine.specs.Cleaning.{IsCalmOn, IsCleanRefusedOn, IsDoneEarly, IsDueAndTight, IsEarlyRow, IsEarlyStop, IsFlushedCleaning, IsHeld, IsNoReading, IsOfMachine, IsRowDone, IsRowReady, IsRowStopped, IsStart, IsStoppedCleaning, IsStoppedEarly, IsWantOfRoom, IsWhole, MayHelp, most_ahead};
 ghost use Rattle.engine.specs.Cleans.{IsCleanedOn, IsRefusedClean};
 ghost use Rattle.engine.specs.OneStep.{IsOnlyRead};
@@ -10,6 +11,7 @@ ghost use Rattle.engine.specs.Refusal.{IsAdmitted, is_crew};
 ghost use Rattle.engine.specs.Room.{is_overfull};
 ghost use Rattle.engine.specs.State.{State, IsSound};
 
+use crate::laws::steps_answer_as_a_map_and_are_read_back;
 use crate::refusal::admit_crew;
 use crate::step::Step;
 use crate::store::Store;
@@ -17,6 +19,7 @@ use cleaner::Reading;
 use crew::{Crew, NoGate};
 use flush_log::Disk;
 use keys::Fault;
+use std::alloc::Global;
 use std::thread::Threads;
 
 // Whether to go on after a flush that was refused: if the log is full, and more segments may be cleaned.
@@ -337,12 +340,17 @@ impl<D: Disk> Store<D> {
             IfErr result (λ fault. (start : State D) × IsStart self.old start
             × IsStoppedCleaning D.view D.failed start self.new fault) }
 
-        // What the store holds stays, whatever is answered.
+        // What the store holds stays, whatever is answered. On an honest disk it is durable after success, and a crash
+        // at any moment leaves it, or what was durable before.
         ensures holds { contents self.new.store.tree ≡ contents self.old.store.tree }
+        ensures durable { MakesDurable D.view self.old.settings (contents self.old.store.tree)
+            self.old.disk self.old.has_failed result self.new }
 
         // The store was sound, and is so again.
         ensures sound { IsSound D.view self.old × IsSound D.view self.new }
     {
+        // Only for the proof.
+        steps_answer_as_a_map_and_are_read_back::<Global>();
         if self.has_failed {
             return Err(Fault::Failed);
         }

@@ -1,7 +1,9 @@
 use Rattle.std.proofs.Common.{◌≡◌, true, false, inl, refl, subst}
 use Rattle.std.proofs.lemmas.Result.{err_from_is_err_and}
+use Rattle.keys.specs.declared.fault.Fault.TheVariants.{BadCrew, Failed, NoMemory}
 use Rattle.engine.specs.Refusal.{is_crew}
 use Rattle.engine.specs.State.{IsSound}
+use Rattle.engine.proofs.ClaimFlushed.{cleaning_durable, durable_from, nothing_durable, still_fine}
 use Rattle.engine.proofs.CleaningLemmas.{start_holds, cleaning_holds}
 use Rattle.engine.proofs.CleansLemmas.{if_ok, if_err}
 use Rattle.engine.proofs.EarlyLemmas.{stopped_at_once}
@@ -21,6 +23,7 @@ returns-then-self g c =
       admitted = failed_call (is_crew c.args.crew) old bad;
       refused = λ fine. absurd (not_both old.has_failed bad fine);
       holds = refl;
+      durable = nothing_durable g.D.Disk.view g.met.D.Disk.lawful old Failed (λ e. absurd (cc));
       sound = (sound, sound);
     }
 
@@ -39,6 +42,7 @@ returns-in_err-admit_crew g c =
       admitted = bad_crew_call (is_crew c.args.crew) old fine;
       refused = λ _ able. absurd (not_both (is_crew c.args.crew) able why.1);
       holds = refl;
+      durable = nothing_durable g.D.Disk.view g.met.D.Disk.lawful old BadCrew (λ e. absurd (cc));
       sound = (sound, sound);
     })
 
@@ -57,6 +61,7 @@ returns-in_err-compact_if_due g c =
       admitted = admitted_call (is_crew c.args.crew) old _ _ fine c.in_ok-admit_crew.ensures.ok;
       refused = λ _ _. (old, inl refl, stopped_at_once g.D.Disk.view g.D.Disk.failed g.met.D.Disk.lawful old c.compact_if_due.new.self _ sound err);
       holds = start_holds _ _ (inl err.1);
+      durable = rw (err.0, err.1) (nothing_durable g.D.Disk.view g.met.D.Disk.lawful old NoMemory (λ e. absurd (cc)));
       sound = (sound, rw err.1 sound);
     })
 
@@ -74,6 +79,9 @@ returns g c =
       flushed = if_ok c.flush_in_rows.result _ _ rows.flushed (λ n h. (c.compact_if_due.new.self, start, h));
       admitted = admitted_call (is_crew c.args.crew) old _ _ fine c.in_ok-admit_crew.ensures.ok;
       refused = λ _ _. if_err c.flush_in_rows.result _ _ rows.refused (λ fault h. (c.compact_if_due.new.self, start, h));
+      durable = durable_from g.D.Disk.view old c.compact_if_due.new.self c.flush_in_rows.new.self c.flush_in_rows.result start
+          (cleaning_durable g.D.Disk.view c.steps_answer_as_a_map_and_are_read_back.ensures c.compact_if_due.new.self rows.sound.0 (still_fine old c.compact_if_due.new.self start fine)
+          g.D.Disk.failed c.flush_in_rows.new.self c.flush_in_rows.result rows.flushed rows.refused);
       holds = cleaning_holds g.D.Disk.view g.D.Disk.failed _ _ _ c.flush_in_rows.result start rows.flushed rows.refused;
       sound = (sound, rows.sound.1);
     }

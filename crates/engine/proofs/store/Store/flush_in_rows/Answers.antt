@@ -63,7 +63,7 @@ returns-in_err-go_on-in-Err-clause-refused g c =
     let last = not_gone_on c.in-Err.fault c.in_err-go_on-in-Err.field-0.0 c.room.left c.in_err-go_on-in-Err.ensures in
     rw (p.1, p.2) (subst (λ (f : Fault). IsStoppedCleaning view failed old c.step.new.self f) (sym last.0)
     (stopped_flush view failed g.met.D.Disk.lawful old rows c.room.self done c.step.new.self err.unchanged err.rest err.sound.1
-    c.in-Err.fault c.room.left sum err.fine err.same (λ is. (err.device is).0) err.crash (err.refused (done.done.turn.has_failed ∙ c.requires.fine) c.requires.crew) last.1))
+    c.in-Err.fault c.room.left sum err.fine err.same err.device err.crash (err.refused (done.done.turn.has_failed ∙ c.requires.fine) c.requires.crew) last.1))
 
 -- ---- a reading
 
