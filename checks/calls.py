@@ -17,7 +17,7 @@ from tools.processes import NO_VARIABLES, PATIENCE, Command, Dialog, Limits, Run
 CREW = ("--workers=2", "--grain=1")
 OTHER = ("--fan=65", *CREW)  # an invalid --fan, which must not matter for an old file
 LENGTH = 1_536  # bytes of a small store's file
-EXAMPLES = ("cache", "events", "people")
+EXAMPLES = ("sessions", "inverted_index", "queue", "cache")
 NONE = FailingCalls("none")
 
 
@@ -142,7 +142,7 @@ def stay_empty(programs: Programs, library: Path, name: str) -> Outcome:
             file.write_bytes(b"")
             environment = replace(fails, cuts=True).environment(library, file)
             ran = run([program, file], b"", Limits(stack=256), environment=environment)
-            wrong = differs(ran, 1, b"", b"Error: the file of the store: Input/output error (os error 5)\n")
+            wrong = differs(ran, 1, b"", f"Error: {file}: Input/output error (os error 5).\n".encode())
             if wrong or file.stat().st_size:
                 return Outcome(f"{fails}: {wrong or f'the file has {file.stat().st_size} bytes'}")
     return Outcome()
@@ -168,7 +168,7 @@ def fail_to_open(programs: Programs, library: Path) -> Outcome:
             for fails in OPENING:
                 environment = replace(fails, cuts=True).environment(library, file)
                 ran = run([program, file], LINE, Limits(stack=256), environment=environment)
-                wrong = differs(ran, 1, b"", b"Error: the file of the store: Input/output error (os error 5)\n")
+                wrong = differs(ran, 1, b"", f"Error: {file}: Input/output error (os error 5).\n".encode())
                 if wrong or file.read_bytes() != before:
                     return Outcome(f"{fails}: {wrong or 'the file has other bytes'}")
             if wrong := differs(run([program, file], LINE, Limits(stack=256)), 0, ANSWER):

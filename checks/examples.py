@@ -12,7 +12,8 @@ from tools.processes import Limits, abbreviate, new_folder, run, run_until
 
 SEEDS, KILLS = 2, 5
 COMMANDS = 1_500  # of a session that is not killed
-ALL = 4_294_967_295
+LIFETIME = 600  # seconds of a session after its last use
+CAPACITY = 100  # pairs of the cache
 STACK = 256  # KB, because the line reader's buffer is on the stack
 
 Lines = list[str]
@@ -27,8 +28,11 @@ class ExampleCommand:
 
 @dataclass(frozen=True)
 class ReadBack:
+    """Lines that change nothing in the file, their answers, and the pairs of the file."""
+
     lines: Lines
     answers: Lines
+    pairs: dict[bytes, bytes]
 
 
 def text_of(lines: Lines) -> bytes:
@@ -39,40 +43,93 @@ def text_of(lines: Lines) -> bytes:
 
 
 @dataclass
-class EventsModel:
-    days: dict[str, Lines] = field(default_factory=dict)
+class SessionsModel:
+    """The expiry and the user of each session. Each command is 20 seconds later than the one before it."""
 
-    def open(self) -> Lines:
-        return []
+    sessions: dict[str, tuple[int, str]] = field(default_factory=dict)
+
+    def open(self) -> None:
+        pass
 
     def next(self, number: int) -> ExampleCommand:
-        day, text = f"{20261110 + number * 7 % 9}", f"event {number} {'.' * (number % 60)}"
-        self.days.setdefault(day, []).append(text)
-        return ExampleCommand(f"append {day} {text}", f"event {len(self.days[day])}")
+        now, token = number * 20, f"t{number * 37 % 47}"
+        if number % 10 == 9:
+            kept = {token: session for token, session in self.sessions.items() if session[0] > now}
+            swept, self.sessions = len(self.sessions) - len(kept), kept
+            return ExampleCommand(f"{now} sweep", f"{swept} expired")
+        if number % 3 == 0:
+            return self.use(now, token)
+        self.sessions[token] = (now + LIFETIME, user := f"user {number}")
+        return ExampleCommand(f"{now} begin {token} {user}", f"{token} is {user}")
+
+    def use(self, now: int, token: str) -> ExampleCommand:
+        expiry, user = self.sessions.get(token, (0, ""))
+        if now >= expiry:
+            return ExampleCommand(f"{now} use {token}", f"{token} has no session", is_durable=False)
+        self.sessions[token] = (now + LIFETIME, user)
+        return ExampleCommand(f"{now} use {token}", f"{token} is {user}")
 
     def read_back(self) -> ReadBack:
-        listed = {day: [f"{day} {text}" for text in reversed(self.days.get(day, []))] for day in (f"{20261110 + at}" for at in range(9))}
-        newest = [line for day in sorted(listed, reverse=True) for line in listed[day]]
-        lines = [f"newest {ALL}", "newest 3", *(f"day {day}" for day in listed)]
-        return ReadBack(lines, [*newest, *newest[:3], *(line for day in listed for line in listed[day])])
+        rows = {f"s{token}".encode(): expiry.to_bytes(8, "big") + user.encode() for token, (expiry, user) in self.sessions.items()}
+        entries = {b"x" + expiry.to_bytes(8, "big") + token.encode(): b"" for token, (expiry, _) in self.sessions.items()}
+        return ReadBack(["0 use nobody"], ["nobody has no session"], {**rows, **entries})
 
 
 @dataclass
-class PeopleModel:
-    cities: dict[str, str] = field(default_factory=dict)
+class IndexModel:
+    texts: dict[str, str] = field(default_factory=dict)
 
-    def open(self) -> Lines:
-        return [f"{len(self.cities)} people"]
+    def open(self) -> None:
+        pass
 
     def next(self, number: int) -> ExampleCommand:
-        name, city = f"n{number * 37 % 101}", f"city {number * number % 7}"
-        self.cities[name] = city
-        return ExampleCommand(f"add {name} {city}", f"{name} lives in {city}")
+        name = f"n{number * 37 % 101}"
+        text = "" if number % 7 == 6 else " ".join(f"w{number * at % 23}" for at in range(1, 2 + number % 5))
+        self.texts.pop(name, None)
+        if text:
+            self.texts[name] = text
+        return ExampleCommand(f"set {name} {text}" if text else f"set {name}", f"{name} is set")
+
+    def having(self, *words: str) -> Lines:
+        return [name for name in sorted(self.texts) if set(words) <= set(self.texts[name].split())]
 
     def read_back(self) -> ReadBack:
-        cities = [f"city {at}" for at in range(7)]
-        living = [name for city in cities for name in sorted(self.cities) if self.cities[name] == city]
-        return ReadBack([*(f"in {city}" for city in cities), "check"], [*living, *self.open()])
+        searches = [(f"w{at}", f"w{at * at % 23}", "w0")[: 1 + at % 3] for at in range(23)]
+        rows = {f"d{name}".encode(): text.encode() for name, text in self.texts.items()}
+        entries = {f"w{word}\0{name}".encode(): b"" for name, text in self.texts.items() for word in text.split()}
+        found = [name for words in searches for name in self.having(*words)]
+        return ReadBack([f"find {' '.join(words)}" for words in searches], found, {**rows, **entries})
+
+
+@dataclass
+class QueueModel:
+    """The jobs from number `head` on."""
+
+    head: int = 0
+    jobs: Lines = field(default_factory=list)
+
+    def open(self) -> None:
+        self.head = self.head if self.jobs else 0
+
+    def next(self, number: int) -> ExampleCommand:
+        if number % 5 == 4:
+            return ExampleCommand("first", self.first(), is_durable=False)
+        is_push = number % 3 != 0 if number // 100 % 2 == 0 else number % 6 == 0  # the queue is empty now and then
+        if is_push:
+            self.jobs.append(text := f"job {number} {'.' * (number % 60)}")
+            return ExampleCommand(f"push {text}", f"job {self.head + len(self.jobs) - 1}")
+        if not self.jobs:
+            return ExampleCommand("done", "empty")
+        del self.jobs[0]
+        self.head += 1
+        return ExampleCommand("done", f"job {self.head - 1} is done")
+
+    def first(self) -> str:
+        return f"job {self.head} {self.jobs[0]}" if self.jobs else "empty"
+
+    def read_back(self) -> ReadBack:
+        pairs = {number.to_bytes(8, "big"): text.encode() for number, text in enumerate(self.jobs, self.head)}
+        return ReadBack(["first"], [self.first()], pairs)
 
 
 @dataclass
@@ -82,26 +139,24 @@ class CacheModel:
     pairs: dict[str, tuple[bool, str]] = field(default_factory=dict)
     hand: str = ""
 
-    def open(self) -> Lines:
+    def open(self) -> None:
         self.hand = ""
-        return []
 
     def next(self, number: int) -> ExampleCommand:
         key = f"k{number * 37 % 211}"
-        if number % 20 == 19:
-            self.evict(most := 60 + number % 50)
-            return ExampleCommand(f"evict {most}", f"{len(self.pairs)} left")
         if number % 3 == 0:
             value = self.pairs[key][1] if key in self.pairs else None
             if value is not None:
                 self.pairs[key] = (True, value)
             return ExampleCommand(f"get {key}", f"{key} is {'missing' if value is None else value}", is_durable=False)
+        if key not in self.pairs:
+            self.make_room()
         self.pairs[key] = (False, value := f"{number} {'.' * (number % 90)}")
         return ExampleCommand(f"put {key} {value}", f"{key} is {value}")
 
-    def evict(self, most: int) -> None:
+    def make_room(self) -> None:
         """Evicts by the clock algorithm, from the hand on: a marked pair is spared once."""
-        while len(self.pairs) > most:
+        while len(self.pairs) >= CAPACITY:
             key = min((key for key in self.pairs if key >= self.hand), default=min(self.pairs))
             was_read, value = self.pairs.pop(key)
             if was_read:
@@ -110,13 +165,18 @@ class CacheModel:
 
     def read_back(self) -> ReadBack:
         keys = [f"k{at}" for at in range(211)]
-        return ReadBack([f"get {key}" for key in keys], [f"{key} is {self.pairs[key][1] if key in self.pairs else 'missing'}" for key in keys])
+        answers = [f"{key} is {self.pairs[key][1] if key in self.pairs else 'missing'}" for key in keys]
+        pairs = {key.encode(): f"{'+' if was_read else '-'}{value}".encode() for key, (was_read, value) in self.pairs.items()}
+        return ReadBack([f"get {key}" for key in keys], answers, pairs)
 
 
-ExampleModel = EventsModel | PeopleModel | CacheModel
-MODELS: dict[str, Callable[[], ExampleModel]] = {"events": EventsModel, "people": PeopleModel, "cache": CacheModel}
-
-
+ExampleModel = SessionsModel | IndexModel | QueueModel | CacheModel
+MODELS: dict[str, Callable[[], ExampleModel]] = {
+    "sessions": SessionsModel,
+    "inverted_index": IndexModel,
+    "queue": QueueModel,
+    "cache": CacheModel,
+}
 
 
 def play(name: str, restarts: list[int], commands: int) -> ExampleModel:
@@ -153,9 +213,9 @@ class KilledExample:
     def kill(self, count: int, share: float | None) -> tuple[str | None, bool]:
         """Kills the session after this share of the answers. Returns an error, and whether the session ended before the kill."""
         model = play(self.name, self.restarts, self.done)
-        opened = model.open()
+        model.open()
         commands = [model.next(self.done + at) for at in range(count)]
-        expected = [*opened, *(each.answer for each in commands)]
+        expected = [each.answer for each in commands]
         size = None if share is None else int(len(text_of(expected)) * share)
         self.restarts.append(self.done)  # reading sessions flush nothing
         status, printed = run_killed(self.program, self.path, [each.line for each in commands], size)
@@ -163,7 +223,7 @@ class KilledExample:
             return f"status {status}, output {abbreviate(text_of(printed[-2:]))}", True
         if printed != expected[: len(printed)] or (status == 0 and len(printed) < len(expected)):
             return f"the output has {first_wrong_line(printed, expected)}", status == 0
-        return self.check(commands, max(len(printed) - len(opened), 0)), status == 0
+        return self.check(commands, len(printed)), status == 0
 
     def check(self, commands: list[ExampleCommand], answered: int) -> str | None:
         """The file must hold all commands up to the last durable one, or one more."""
@@ -179,13 +239,15 @@ class KilledExample:
         return f"after {answered} answers {wrong}"
 
     def wrong_file(self, done: int) -> str | None:
-        model = play(self.name, self.restarts, done)
-        read_back, opened = model.read_back(), model.open()
+        read_back = play(self.name, self.restarts, done).read_back()
         ran = run([self.program, self.path], text_of(read_back.lines), Limits(STACK))
-        lines, expected = ran.out.decode(errors="replace").split("\n")[:-1], [*opened, *read_back.answers]
-        if ran.status == 0 and lines == expected:
-            return None
-        return f"the file has {first_wrong_line(lines, expected)}" if ran.status == 0 else ran.describe()
+        lines = ran.out.decode(errors="replace").split("\n")[:-1]
+        if ran.status != 0:
+            return ran.describe()
+        if lines != read_back.answers:
+            return f"the file has {first_wrong_line(lines, read_back.answers)}"
+        found = dict(read_store(self.path.read_bytes()).pairs)
+        return None if found == read_back.pairs else f"the file has {len(found)} pairs, which are not the {len(read_back.pairs)} of the model"
 
 
 def kill_often(name: str, program: Path, seed: int, folder: Path) -> Outcome:
@@ -236,7 +298,10 @@ def close(programs: Programs, name: str, closed: str) -> Outcome:
 
 # ---- The first programs of docs/EMBEDDING.md; checks/pages.py compares that page with their sources.
 
-STEPS = b"2 replies\nflushed %d\nget: 5 bytes\nrange: [107, 101, 121] [118, 97, 108, 117, 101]\n"
+STEPS = """new: {is_new}, flushed {number}
+[107, 101, 121] is [118, 97, 108, 117, 101]
+deleted: true, added: true, pairs: 1
+"""
 
 
 def run_first_steps(programs: Programs) -> Outcome:
@@ -245,7 +310,17 @@ def run_first_steps(programs: Programs) -> Outcome:
         return Outcome(left_out=why)
     with new_folder() as folder:
         ran = [run([program], limits=Limits(STACK), folder=Path(folder)) for _ in range(2)]
-        return Outcome(differs(ran[0], 0, STEPS % 2) or differs(ran[1], 0, STEPS % 3))
+        due = [STEPS.format(is_new=is_new, number=number).encode() for is_new, number in (("true", 2), ("false", 3))]
+        return Outcome(differs(ran[0], 0, due[0]) or differs(ran[1], 0, due[1]))
+
+
+def count_twice(programs: Programs) -> Outcome:
+    program = programs.examples / "counters"
+    if why := why_left_out(program):
+        return Outcome(left_out=why)
+    with new_folder() as folder:
+        ran = [run([program, Path(folder) / "store"], limits=Limits(STACK)) for _ in range(2)]
+        return Outcome(differs(ran[0], 0, b"home: 5000\nnews: 5000\n") or differs(ran[1], 0, b"home: 10000\nnews: 10000\n"))
 
 
 def put_then_get(programs: Programs) -> Outcome:
@@ -267,5 +342,5 @@ def put_then_get(programs: Programs) -> Outcome:
 def cases(programs: Programs) -> list[Case]:
     kills = [Case(f"{name}, {KILLS} kills, seed {seed}", kill_example, (programs, name, seed)) for name in MODELS for seed in range(1, SEEDS + 1)]
     closed = [Case(f"{name}, {closed}", close, (programs, name, closed)) for name in [*MODELS, "put_then_get"] for closed in (">&-", "<&-")]
-    ran = [Case("the first steps of docs/EMBEDDING.md", run_first_steps, (programs,)), Case("put_then_get", put_then_get, (programs,))]
-    return [*kills, *closed, *ran]
+    steps = Case("the first steps of docs/EMBEDDING.md", run_first_steps, (programs,))
+    return [*kills, *closed, steps, Case("counters", count_twice, (programs,)), Case("put_then_get", put_then_get, (programs,))]

@@ -14,13 +14,14 @@ from tools import building  # noqa: E402
 
 # The lines of a first session, and of a second one on the same file.
 SESSIONS: dict[str, tuple[list[str], ...]] = {
-    "events": (["append 20261127 rain", "append 20261128 walk", "append 20261128 tea"], ["day 20261128", "newest 3"]),
-    "people": (["add ann Rome", "add cat Rome"], ["add ann Oslo", "in Rome", "check"]),
-    "cache": (["put a one", "put b two", "get a", "evict 1"], ["get a", "get b"]),
+    "sessions": (["100 begin t1 ann", "200 begin t2 bob", "650 use t1"], ["900 sweep", "900 use t1", "900 use t2"]),
+    "inverted_index": (["set one a cat and a dog", "set two a cat", "find cat"], ["find cat dog", "set one", "find cat"]),
+    "queue": (["push wash", "push dry", "first"], ["done", "first"]),
+    "cache": (["put a one", "put b two", "get a"], ["get a", "get b"]),
     "put_then_get": (["a one", "b two"], ["a three"]),
     "first_steps": ([], []),
-    "upkeep": ([], []),
-    "owner_thread": ([], []),
+    "upkeep": ([],),
+    "counters": ([], []),
 }
 
 
