@@ -1,5 +1,5 @@
 -- Lemmas on the ends of a batch's scans.
-use Rattle.std.specs.Prelude.{◌≡◌, ℕ, suc, pred, ◌+◌, ◌-◌, ◌<◌, ◌≤◌, true, List, [], ◌∷◌, ◌++◌, map, length, take, slice_get, Option, Some, None, IfSome}
+use Rattle.std.specs.Prelude.{◌≡◌, ℕ, suc, pred, ◌+◌, ◌-◌, ◌<◌, ◌≤◌, Bool, true, not, List, [], ◌∷◌, ◌++◌, map, length, take, slice_get, Option, Some, None, IfSome}
 use Rattle.std.proofs.Common.{refl, sym, ap, ◌∙◌, subst, arith, append_assoc, Bor, get_or}
 use Rattle.std.specs.Map.{keys_of}
 use Rattle.std.specs.Option.{option_copied}
@@ -19,11 +19,13 @@ use Rattle.mapping.specs.TreeInMemory.{TreeInMemory, tree_of}
 use Rattle.mapping.proofs.TileLemmas.{tiled_apart}
 use Rattle.scan.specs.Ends.{Deletions, deleted, wiped, LacksAtMost, AreCertain}
 use Rattle.scan.specs.Deletions.{Tallies, IsTaken}
-use Rattle.scan.specs.Path.{leaf_pages, leaves_from}
+use Rattle.scan.specs.Path.{leaf_pages, leaves_beyond}
 use Rattle.scan.specs.Walk.{walk_from}
 use Rattle.scan.proofs.Enough.{lacks}
 use Rattle.scan.proofs.Parts.{part_of_level}
-use Rattle.scan.proofs.TreeLemmas.{last-from}
+use Rattle.scan.specs.declared.direction.Direction.TheVariants.{Up}
+use Rattle.scan.proofs.PlaceLemmas.{not_above_end}
+use Rattle.scan.proofs.TreeBeyond.{last-beyond}
 
 abbrev pub Leaves : Type 0
 Leaves = List (Page (List ℕ))
@@ -107,12 +109,13 @@ module _ (t : TreeInMemory) (held : HoldsLevels (tree_of t).pages (levels_of (tr
   pub passing_first : (lo : List ℕ) (leaf : Page (List ℕ)) (pairs_after : Leaves) → walk_from t 0 lo t.root ≡ leaf ∷ pairs_after → IsPassing (levels_of (tree_of t)).level leaf pairs_after
   passing_first lo leaf pairs_after w =
       let at_top : pred t.height - 0 ≡ pred t.height = omega arith in
-      let l = last-from (tree_of t) held levels lo in
+      let under : List ℕ → Bool = λ j. not (is_below lo j) in
+      let l = last-beyond (tree_of t) held levels under (λ j k u n. not_above_end j k lo u n) in
       record {
         passed = l.before;
         whole =
             l.whole
-            ∙ ap (λ (x : Leaves). l.before ++ x) (sym (ap (λ (n : ℕ). leaf_pages (tree_of t).pages (leaves_from (tree_of t).pages n lo t.root)) at_top) ∙ w);
+            ∙ ap (λ (x : Leaves). l.before ++ x) (sym (ap (λ (n : ℕ). leaf_pages (tree_of t).pages (leaves_beyond Up (tree_of t).pages n under t.root)) at_top) ∙ w);
       }
 
 -- ---- a step of the walk

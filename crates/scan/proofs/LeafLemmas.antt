@@ -1,4 +1,4 @@
--- Lemmas on the walk over the pairs of one leaf.
+-- Lemmas on an upward iteration over the pairs of one leaf.
 use Rattle.std.specs.Prelude.{◌≡◌, ℕ, Bool, true, false, not, cond, List, [], ◌∷◌, Option, Some, None}
 use Rattle.std.proofs.Common.{refl, sym, ap, ◌∙◌, subst, Ordering, Less, Equal, Greater}
 use Rattle.std.specs.Ordering.{is_lt, is_eq}
@@ -70,19 +70,19 @@ module _ {V : Type 0} where
   step_by false k e es b r ih =
       pairs_after-skips k e es b ∙ ih ∙ rest_by (above k es) e es (λ g p. passed_by (is_below g.0 e.0) g.0 k e.0 refl (found_above k es g p) b)
 
-  -- the pairs after k are the first one after it, and those after that
+  -- the pairs after k are the first pair after k, and the pairs after that pair
   pub pairs_after-step : (k : List ℕ) (es : List (List ℕ × V)) → IsRising es → pairs_after k es ≡ left_after (above k es) es
   unfolding IsStrictlySortedBy
   pairs_after-step k [] r = refl
   pairs_after-step k (e ∷ es) r = step_by (is_below k e.0) k e es refl r (pairs_after-step k es r.1)
 
-  -- ---- where a walk begins
+  -- ---- where an iteration begins
 
   none_by : (b : Bool) (e : List ℕ × V) (o : Option V) → cond b (Some e.1) o ≡ None → (b ≡ false) × (o ≡ None)
   none_by true e o h = absurd (cc)
   none_by false e o h = (refl, h)
 
-  -- if the key isn't there, the pairs from it on are those after it
+  -- if the key isn't there, the pairs at or above it are those after it
   pub from-none : (k : List ℕ) (es : List (List ℕ × V)) → value_at k es ≡ None → from k es ≡ pairs_after k es
   from-none k [] h = refl
   from-none k (e ∷ es) h =
@@ -102,7 +102,7 @@ module _ {V : Type 0} where
       let l : order e.0 k ≡ Less = all_below k es v e.0 r.0 h in
       rw (l, above_not_below e.0 k l) (ih h)
 
-  -- if it is there, they are its pair and those after it
+  -- if it is there, they are its pair and the pairs after it
   pub from-there : (k : List ℕ) (v : V) (es : List (List ℕ × V)) → IsRising es → value_at k es ≡ Some v → from k es ≡ (k, v) ∷ pairs_after k es
   unfolding IsStrictlySortedBy
   from-there k v [] r h = absurd (cc)
@@ -113,7 +113,7 @@ module _ {V : Type 0} where
       floor-nearest k es (Some (k, v)) r (record { on = rw (order_itself k) refl; has = h; none_nearer = λ i o n. absurd (let wrong : not (is_lt Less) ≡ true = rw n at o in cc) })
 
   module _ (k : List ℕ) (p : Layers V) (r : IsInOrder p) where
-    -- if the key is there, its pair is the last one up to it
+    -- if the key is there, its pair is the last pair at or below it
     pub start-some : (v : V) (o : Option (List ℕ × V)) → Some v ≡ holds p k → o ≡ floor k (entries_of p) → left_after o (entries_of p) ≡ from k (entries_of p)
     start-some v o h f =
         let there : value_at k (entries_of p) ≡ Some v = value_at-entries_of p k r ∙ sym h in
@@ -123,6 +123,6 @@ module _ {V : Type 0} where
     pub start-none : (o : Option (List ℕ × V)) → None ≡ holds p k → left_after o (entries_of p) ≡ pairs_after k (entries_of p) → left_after o (entries_of p) ≡ from k (entries_of p)
     start-none o h a = a ∙ sym (from-none k (entries_of p) (value_at-entries_of p k r ∙ sym h))
 
-    -- the first pair after the key, and those after it
+    -- the pairs after the key are the first of them, and the others
     pub first-pairs_after : (o : Option (List ℕ × V)) → o ≡ above k (entries_of p) → left_after o (entries_of p) ≡ pairs_after k (entries_of p)
     first-pairs_after o a = ap (λ (x : Option (List ℕ × V)). left_after x (entries_of p)) a ∙ sym (pairs_after-step k (entries_of p) (rising-entries_of p r))

@@ -1,22 +1,27 @@
-mod BackLemmas
-mod BackMerge
-mod BackRows
-mod BackSearch
-mod BackTree
-mod ChildPlaces
 mod Counting
-mod CutLemmas
+mod DirectionLemmas
+mod EdgeLemmas
+mod EmptyKey
 mod EndLemmas
 pub mod Enough
+mod LastLemmas
 mod LazyLemmas
 mod LeafLemmas
 mod MergeLemmas
-mod MergeSteps
 pub mod Parts
 mod PassingLemmas
+mod PastLemmas
 mod PathLemmas
+mod PlaceLemmas
 mod PrefixLemmas
+mod RangeLemmas
+mod RangeSteps
 mod RowLemmas
+mod RunLists
+mod SearchLemmas
 mod TakenLemmas
+mod TreeBeyond
 mod TreeLemmas
+mod TreeWalks
 mod WalkLemmas
+mod WalkPairs

@@ -1,172 +1,241 @@
--- Lemmas on the merge of a leaf's lists, from their first keys on.
-use Rattle.std.specs.Prelude.{length, ◌≡◌, ◌≤◌, ◌+◌, ℕ, suc, Bool, true, false, cond, List, [], ◌∷◌, ◌++◌, drop, map, slice_get, Option, Some, None}
-use Rattle.std.proofs.Common.{refl, add-one, sym, ap, ◌∙◌, arith, Ordering, Less, Equal, Greater}
-use Rattle.std.specs.Ordering.{is_lt, is_eq}
+-- Lemmas on the merge of a leaf's lists in either direction. They describe a list by its values at keys, and by its pairs whose keys pass a test.
+use Rattle.std.specs.Prelude.{◌≡◌, ◌<◌, ◌≤◌, ◌-◌, ℕ, Bool, true, false, cond, List, [], ◌∷◌, length, drop, map, slice_index_or, Option, Some, None, MatchOption}
+use Rattle.std.proofs.Common.{refl, sym, ap, ◌∙◌, subst, Ordering, Less, Equal, Greater}
+use Rattle.std.specs.Ordering.{is_eq}
 use Rattle.std.specs.List.{AllByRecursion}
-use Rattle.std.specs.List.Sorted.{IsStrictlySortedBy}
-use Rattle.std.specs.Map.{keys_of, values_of}
 use Rattle.std.specs.Option.{option_map}
 use Rattle.keys.specs.Order.{order, IsRising}
 use Rattle.keys.specs.OrderedMap.{value_at}
-use Rattle.keys.specs.Range.{is_below}
-use Rattle.keys.proofs.Basics.{less_by}
-use Rattle.keys.proofs.MapLemmas.{IsBelowAll, below_all, same_key, flipped_less, flipped_greater}
-use Rattle.delta_chain.specs.Layers.{change_or, with_run}
-use Rattle.delta_chain.specs.Merging.{pair_if, first_order, asserted, joined_changes}
-use Rattle.delta_chain.proofs.LayerLemmas.{value_at-with_run}
-use Rattle.delta_chain.proofs.Merges.{first_stays, first_goes, change_stays}
-use Rattle.delta_chain.proofs.Places.{drop_pair}
+use Rattle.keys.proofs.MapLemmas.{order_itself, same_key}
+use Rattle.delta_chain.specs.Layers.{Layers, change_or, with_run, entries_of, IsInOrder}
+use Rattle.delta_chain.specs.Merging.{pair_if, asserted, joined_changes}
+use Rattle.delta_chain.proofs.LayerLemmas.{value_at-with_run, rising-with_run}
 use Rattle.delta_chain.proofs.Overlays.{rising-asserted}
-use Rattle.page_search.specs.Places.{count_below}
-use Rattle.page_search.proofs.FloorLemmas.{held_not_none, below_first}
-use Rattle.page_search.proofs.PlaceLemmas.{count_below-cons, count_below-upto}
-use Rattle.scan.specs.Leaf.{from, pairs_after}
-use Rattle.scan.specs.Merge.{StartsFrom}
-use Rattle.scan.proofs.LeafLemmas.{pairs_after-all, from-all, pairs_after-skips, itself}
-use Rattle.scan.proofs.PassingLemmas.{joined_changes-rises, pairs_after-joined_changes}
+use Rattle.scan.specs.Direction.{precedes, IsNext, in_turn, after, until}
+use Rattle.scan.specs.Edge.{is_beyond, beyond}
+use Rattle.scan.specs.Merge.{IsNextSaid, ArePairsNext, HasUntil, changes_with}
+use Rattle.scan.specs.RunPlace.{BeginsWith}
+use Rattle.scan.specs.declared.direction.Direction.{Direction}
+use Rattle.scan.proofs.LastLemmas.{each, passes_all, none_passes}
+use Rattle.scan.proofs.DirectionLemmas.{not_itself, nothing_first, next_in_turn, in_turn_next, never_empty, one_less, next_there, none_there, first_there, none_until_earlier, none_until_not_after, none_of, same_first, goes_before}
+use Rattle.scan.proofs.PassingLemmas.{value_at-passing, passing-with_run, passing-joined_changes, joined_changes-rises, rising-passing, passing-entries}
+use Rattle.scan.proofs.RunLists.{value_at-asserted, front_item, all_after}
 
-pub none_below_empty : (j : List ℕ) → is_lt (order j []) ≡ false
-none_below_empty [] = refl
-none_below_empty (x ∷ xs) = refl
+abbrev Changes : Type 0 → Type 0
+Changes V = List (List ℕ × Option V)
 
--- no key is below the empty one
-count_below-empty : (ks : List (List ℕ)) → count_below [] ks ≡ 0
-count_below-empty [] = refl
-count_below-empty (j ∷ ks) = count_below-cons [] j ks ∙ ap (λ (b : Bool). cond b 1 0 + count_below [] ks) (none_below_empty j) ∙ ap (λ (n : ℕ). 0 + n) (count_below-empty ks)
+equal_by : (o : Ordering) (j k : List ℕ) → o ≡ order j k → true ≡ is_eq o → j ≡ k
+equal_by Less j k e t = absurd (cc)
+equal_by Equal j k e t = same_key j k (sym e)
+equal_by Greater j k e t = absurd (cc)
 
-pub none_below : (k : List ℕ) (ks : List (List ℕ)) → length k ≡ 0 → 0 ≡ count_below k ks
-none_below [] ks h = sym (count_below-empty ks)
-none_below (x ∷ xs) ks h = absurd (omega arith)
+unequal_by : (o : Ordering) (j k : List ℕ) → order j k ≡ o → false ≡ is_eq o → j ≡ k → ⊥
+unequal_by o j k h f e = absurd (let same : order j k ≡ Equal = ap (λ (i : List ℕ). order i k) e ∙ order_itself k in let t : is_eq o ≡ true = ap is_eq (sym h ∙ same) in cc)
 
-module _ {V : Type 0} where
-  -- ---- places
+module _ {V : Type 0} (d : Direction) where
+  -- ---- one list skips a key
 
-  above_by : (o : Ordering) (k : List ℕ) (e : List ℕ × V) (es : List (List ℕ × V)) → order e.0 k ≡ o → is_lt o ≡ false → IsBelowAll e.0 (keys_of es) → IsBelowAll k (keys_of es)
-  above_by Less k e es h n a = absurd (cc)
-  above_by Equal k e es h n a = rw (sym (same_key e.0 k h)) a
-  above_by Greater k e es h n a = below_all k e.0 (keys_of es) (flipped_greater e.0 k h) a
+  -- its next key is the key
+  pub passed : (k j : List ℕ) (v : V) (es old : List (List ℕ × V)) → IsNext d old (j, v) es → IsRising old → (o : Ordering) → o ≡ order j k → true ≡ is_eq o → es ≡ after d k old
+  passed k j v es old h r o e t = sym (first_there d (j, v) old es r h).others ∙ ap (λ (i : List ℕ). after d i old) (equal_by o j k e t)
 
-  -- if the first key is not below k, no key after it is
-  pub from-starts : (k : List ℕ) (e : List ℕ × V) (es : List (List ℕ × V)) → IsRising (e ∷ es) → is_below e.0 k ≡ false → from k (e ∷ es) ≡ e ∷ es
-  unfolding IsStrictlySortedBy
-  from-starts k e es r h = rw h (ap (λ (x : List (List ℕ × V)). e ∷ x) (from-all k es (above_by (order e.0 k) k e es refl h r.0)))
-
-  from_by : (b : Bool) (k : List ℕ) (e : List ℕ × V) (es : List (List ℕ × V)) → is_below e.0 k ≡ b → IsRising (e ∷ es) → drop (count_below k (keys_of es)) es ≡ from k es
-      → drop (cond b 1 0 + count_below k (keys_of es)) (e ∷ es) ≡ from k (e ∷ es)
-  from_by true k e es h r ih =
-      let one : 1 + count_below k (keys_of es) ≡ suc (count_below k (keys_of es)) = omega arith in
-      rw (one, h) ih
-  from_by false k e es h r ih =
-      let upto : count_below k (keys_of (e ∷ es)) ≤ 0 = count_below-upto k (keys_of (e ∷ es)) 0 e.0 r refl h in
-      let whole : count_below k (keys_of (e ∷ es)) ≡ 0 + count_below k (keys_of es) = count_below-cons k e.0 (keys_of es) ∙ ap (λ (b : Bool). cond b 1 0 + count_below k (keys_of es)) h in
-      let none : 0 + count_below k (keys_of es) ≡ 0 = omega arith in
-      rw none (sym (from-starts k e es r h))
-
-  -- the entries after those below k are those from k on
-  pub drop-count_below : (k : List ℕ) (es : List (List ℕ × V)) → IsRising es → drop (count_below k (keys_of es)) es ≡ from k es
-  unfolding IsStrictlySortedBy
-  drop-count_below k [] r = refl
-  drop-count_below k (e ∷ es) r = ap (λ (n : ℕ). drop n (e ∷ es)) (count_below-cons k e.0 (keys_of es)) ∙ from_by (is_below e.0 k) k e es refl r (drop-count_below k es r.1)
-
-  -- the change at a place of a list
-  pub change_at : (es : List (List ℕ × V)) (at : ℕ) (k : List ℕ) (v : V) → slice_get (keys_of es) at ≡ Some k → slice_get (values_of es) at ≡ Some v → (k, v) ∷ drop (at + 1) es ≡ drop at es
-  change_at es at k v h i = rw add-one (sym (drop_pair es at k v h i))
-
-  -- ---- past a key that is the first, or comes before it
-
-  pub past_first : (k : List ℕ) (e : List ℕ × V) (es : List (List ℕ × V)) → IsRising (e ∷ es) → order e.0 k ≡ Equal → pairs_after k (e ∷ es) ≡ es
-  unfolding IsStrictlySortedBy
-  past_first k e es r h =
-      let same : e.0 ≡ k = same_key e.0 k h in
-      ap (λ (j : List ℕ). pairs_after j (e ∷ es)) (sym same) ∙ pairs_after-skips e.0 e es (itself e.0) ∙ pairs_after-all e.0 es r.0
-
-  pub before_first : (k : List ℕ) (e : List ℕ × V) (es : List (List ℕ × V)) → IsRising (e ∷ es) → order e.0 k ≡ Greater → pairs_after k (e ∷ es) ≡ e ∷ es
-  unfolding IsStrictlySortedBy
-  before_first k e es r h =
-      let l : order k e.0 ≡ Less = flipped_greater e.0 k h in
-      pairs_after-all k (e ∷ es) (l, below_all k e.0 (keys_of es) l r.0)
-
-  greater_first : (k : List ℕ) (e : List ℕ × V) (es : List (List ℕ × V)) → IsRising (e ∷ es) → order e.0 k ≡ Equal → first_order es k ≡ Greater
-  unfolding IsStrictlySortedBy
-  greater_first k e [] r h = refl
-  greater_first k e (f ∷ es) r h =
-      let same : e.0 ≡ k = same_key e.0 k h in
-      flipped_less k f.0 (rw (sym same) r.0.0)
-
-  next_by : (o : Ordering) (e : List ℕ × V) (es : List (List ℕ × V)) (c : List ℕ × Option V) (cs : List (List ℕ × Option V)) → order e.0 c.0 ≡ o → is_lt o ≡ false → IsRising (e ∷ es) → IsRising (c ∷ cs)
-      → with_run (e ∷ es) (c ∷ cs) ≡ pair_if c.0 c.1 ++ with_run (pairs_after c.0 (e ∷ es)) cs
-  unfolding IsStrictlySortedBy
-  next_by Less e es c cs h n r s = absurd (cc)
-  next_by Equal e es c cs h n r s =
-      first_goes e es c cs r h ∙ change_stays es c cs r.1 s (greater_first c.0 e es r h)
-      ∙ ap (λ (x : List (List ℕ × V)). pair_if c.0 c.1 ++ with_run x cs) (sym (past_first c.0 e es r h))
-  next_by Greater e es c cs h n r s =
-      change_stays (e ∷ es) c cs r s h ∙ ap (λ (x : List (List ℕ × V)). pair_if c.0 c.1 ++ with_run x cs) (sym (before_first c.0 e es r h))
-
-  -- a change before which there is no pair comes next, and the pair with its key is skipped
-  pub change_next : (es : List (List ℕ × V)) (c : List ℕ × Option V) (cs : List (List ℕ × Option V)) → IsRising es → IsRising (c ∷ cs) → StartsFrom c.0 es → with_run es (c ∷ cs) ≡ pair_if c.0 c.1 ++ with_run (pairs_after c.0 es) cs
-  change_next [] c cs r s n = change_stays [] c cs r s refl
-  change_next (e ∷ es) c cs r s n = next_by (order e.0 c.0) e es c cs refl n r s
-
-module _ {V : Type 0} where
-  -- ---- what runs say together begins with the least of their first keys
-
-  -- a newer run's first change comes first if no older change is below it
-  pub newest_first : (c : List ℕ × Option V) (cs : List (List ℕ × Option V)) (ls : List (List (List ℕ × Option V))) → IsRising (c ∷ cs) → AllByRecursion IsRising ls → StartsFrom c.0 (joined_changes ls) → slice_get (joined_changes ((c ∷ cs) ∷ ls)) 0 ≡ Some c
-  newest_first c cs ls r a n =
-      ap (λ (x : List (List ℕ × Option V)). slice_get x 0) (change_next (joined_changes ls) (c.0, Some c.1) (asserted cs) (joined_changes-rises ls a) (rising-asserted (c ∷ cs) r) n)
-
-  -- an older change that is below it comes first
-  pub older_first : (c d : List ℕ × Option V) (cs ds : List (List ℕ × Option V)) (ls : List (List (List ℕ × Option V))) → IsRising (c ∷ cs) → joined_changes ls ≡ d ∷ ds → order d.0 c.0 ≡ Less → slice_get (joined_changes ((c ∷ cs) ∷ ls)) 0 ≡ Some d
-  older_first c d cs ds ls r h l =
-      ap (λ (x : List (List ℕ × Option V)). slice_get (with_run x (asserted (c ∷ cs))) 0) h
-      ∙ ap (λ (x : List (List ℕ × Option V)). slice_get x 0) (first_stays d ds (c.0, Some c.1) (asserted cs) (rising-asserted (c ∷ cs) r) l)
-
-  -- ---- after that key
-
-  -- what is after the first change is what the runs say after its key
-  pub said_after : (k : List ℕ) (o : Option V) (rest : List (List ℕ × Option V)) (runs : List (List (List ℕ × Option V))) → AllByRecursion IsRising runs → joined_changes runs ≡ (k, o) ∷ rest → joined_changes runs ≡ (k, o) ∷ joined_changes (map (pairs_after k) runs)
-  unfolding IsStrictlySortedBy
-  said_after k o rest runs a h =
-      let r : IsRising ((k, o) ∷ rest) = rw h at (joined_changes-rises runs a) in
-      let others : pairs_after k (joined_changes runs) ≡ rest = ap (λ (x : List (List ℕ × Option V)). pairs_after k x) h ∙ pairs_after-skips k (k, o) rest (itself k) ∙ pairs_after-all k rest r.0 in
-      h ∙ ap (λ (x : List (List ℕ × Option V)). (k, o) ∷ x) (sym others ∙ pairs_after-joined_changes k runs a)
-
-  pub value_at-asserted : (q : List ℕ) (run : List (List ℕ × Option V)) → value_at q (asserted run) ≡ option_map Some (value_at q run)
-  value_at-asserted q [] = refl
-  value_at-asserted q (c ∷ cs) = asserted_by (is_eq (order q c.0)) c.1 (value_at q (asserted cs)) (value_at q cs) (value_at-asserted q cs)
+  -- if its next key is another, and no key comes before the key, the list doesn't contain the key, and all its keys come after it
+  pub kept_else : (k j : List ℕ) (v : V) (es old : List (List ℕ × V)) → IsNext d old (j, v) es → IsRising old → until d k old ≡ [] → (o : Ordering) → o ≡ order j k → false ≡ is_eq o → old ≡ after d k old
+  kept_else k j v es old h r n o e f = none_there d k old r (absent_by (value_at k old) refl) n
     where
-      asserted_by : (b : Bool) (o : Option V) (rest : Option (Option (Option V))) (others : Option (Option V)) → rest ≡ option_map Some others → cond b (Some (Some o)) rest ≡ option_map Some (cond b (Some o) others)
-      asserted_by true o rest others h = refl
-      asserted_by false o rest others h = h
+      -- if the list contained k, both k and j would be its next key
+      absent_by : (x : Option V) → value_at k old ≡ x → value_at k old ≡ None
+      absent_by None q = q
+      absent_by (Some w) q = absurd (unequal_by o j k (sym e) f (same_first d (j, v) (k, w) old es (after d k old) r h (next_there d k w old r q n)))
 
-  neither : (o : Option (Option V)) (older : Option (Option V)) → change_or (option_map Some o) older ≡ None → (o ≡ None) × (older ≡ None)
-  neither None older h = (refl, h)
-  neither (Some x) older h = absurd (cc)
+  -- ---- the base's next pair beside a key (`past`)
 
-  -- no list has a key below k
-  abbrev NamesNoneBelow : List ℕ → List (List ℕ × Option V) → Type 0
-  NamesNoneBelow k cs = (q : List ℕ) → is_below q k ≡ true → value_at q cs ≡ None
+  pub past_equal : (k j : List ℕ) (v : V) (es rest : List (List ℕ × V)) → IsRising es → IsNext d es (j, v) rest → j ≡ k → (until d k es ≡ []) × (rest ≡ after d k es)
+  past_equal k j v es rest r h e =
+      let f = first_there d (j, v) es rest r h in
+      (ap (λ (i : List ℕ). until d i es) (sym e) ∙ f.none_before, sym f.others ∙ ap (λ (i : List ℕ). after d i es) e)
 
-  start_by : (b : Bool) (k : List ℕ) (c : List ℕ × Option V) (cs : List (List ℕ × Option V)) → is_below c.0 k ≡ b → (b ≡ true → value_at c.0 (c ∷ cs) ≡ None) → b ≡ false
-  start_by true k c cs h n = absurd (held_not_none c cs (n refl))
-  start_by false k c cs h n = refl
+  -- if the key comes before the next pair's key, it comes before all keys
+  pub past_later : (k j : List ℕ) (v : V) (es rest : List (List ℕ × V)) → IsRising es → IsNext d es (j, v) rest → precedes d k j ≡ true → (until d k es ≡ []) × (es ≡ after d k es)
+  past_later k j v es rest r h p =
+      let f = first_there d (j, v) es rest r h in
+      let absent : value_at k es ≡ None =
+      sym (ap (λ (t : Bool). cond t (value_at k es) None) p) ∙ sym (value_at-passing (λ i. precedes d i j) es k) ∙ ap (λ (x : List (List ℕ × V)). value_at k x) f.none_before in
+      let none = none_until_earlier d k j es p f.none_before in
+      (none, none_there d k es r absent none)
 
-  starts : (k : List ℕ) (cs : List (List ℕ × Option V)) → NamesNoneBelow k cs → StartsFrom k cs
-  starts k [] n = tt
-  starts k (c ∷ cs) n = start_by (is_below c.0 k) k c cs refl (n c.0)
+  pub past_before : (k j : List ℕ) (v : V) (es rest : List (List ℕ × V)) → IsNext d es (j, v) rest → precedes d j k ≡ true → HasUntil d k es
+  past_before k j v es rest h p = record { first = (j, v); begins = record { rest = rest; parts = h }; before = p }
 
-  each_starts : (k : List ℕ) (runs : List (List (List ℕ × Option V))) → AllByRecursion IsRising runs → NamesNoneBelow k (joined_changes runs) → AllByRecursion (StartsFrom k) runs
-  each_starts k [] a n = tt
-  each_starts k (run ∷ runs) a n =
-      let both : (q : List ℕ) → is_below q k ≡ true → (value_at q run ≡ None) × (value_at q (joined_changes runs) ≡ None) =
-      λ q b. neither (value_at q run) (value_at q (joined_changes runs))
-      (ap (λ (o : Option (Option (Option V))). change_or o (value_at q (joined_changes runs))) (sym (value_at-asserted q run))
-      ∙ sym (value_at-with_run (joined_changes runs) (asserted run) q (joined_changes-rises runs a.1) (rising-asserted run a.0)) ∙ n q b) in
-      (starts k run (λ q b. (both q b).0), each_starts k runs a.1 (λ q b. (both q b).1))
+  -- ---- the change that runs have at a key
 
-  -- no run has a change before the first one of all
-  pub all_start : (k : List ℕ) (o : Option V) (rest : List (List ℕ × Option V)) (runs : List (List (List ℕ × Option V))) → AllByRecursion IsRising runs → joined_changes runs ≡ (k, o) ∷ rest → AllByRecursion (StartsFrom k) runs
-  all_start k o rest runs a h =
-      let r : IsRising ((k, o) ∷ rest) = rw h at (joined_changes-rises runs a) in
-      each_starts k runs a (λ q b. rw h (below_first q (k, o) rest r (less_by (order q k) b)))
+  pub said_at : (q : List ℕ) (l : Changes V) (ls : List (Changes V)) → IsRising l → AllByRecursion IsRising ls → value_at q (joined_changes (l ∷ ls)) ≡ change_or (option_map Some (value_at q l)) (value_at q (joined_changes ls))
+  said_at q l ls r a =
+      value_at-with_run (joined_changes ls) (asserted l) q (joined_changes-rises ls a) (rising-asserted l r)
+      ∙ ap (λ (o : Option (Option (Option V))). change_or o (value_at q (joined_changes ls))) (value_at-asserted q l)
+
+  -- the newest run's next change is the next of all, if no older run has a key before it
+  next_newest : (c : List ℕ × Option V) (l : Changes V) (ls : List (Changes V)) → IsRising l → AllByRecursion IsRising ls → BeginsWith d c l → AllByRecursion (λ run. until d c.0 run ≡ []) ls → IsNextSaid d c (l ∷ ls)
+  next_newest c l ls r a b others =
+      let f = first_there d c l b.rest r b.parts in
+      record {
+        said = said_at c.0 l ls r a ∙ ap (λ (o : Option (Option V)). change_or (option_map Some o) (value_at c.0 (joined_changes ls))) f.value;
+        none_before = (f.none_before, others);
+      }
+
+  -- the next change of the older runs is the next of all, if its key comes before the newest run's next key
+  next_older : (c e : List ℕ × Option V) (l : Changes V) (ls : List (Changes V)) → IsRising l → AllByRecursion IsRising ls → BeginsWith d e l → IsNextSaid d c ls → precedes d c.0 e.0 ≡ true → IsNextSaid d c (l ∷ ls)
+  next_older c e l ls r a b i p =
+      let f = first_there d e l b.rest r b.parts in
+      let absent : value_at c.0 l ≡ None =
+      sym (ap (λ (t : Bool). cond t (value_at c.0 l) None) p) ∙ sym (value_at-passing (λ j. precedes d j e.0) l c.0) ∙ ap (λ (x : Changes V). value_at c.0 x) f.none_before in
+      record {
+        said = said_at c.0 l ls r a ∙ ap (λ (o : Option (Option V)). change_or (option_map Some o) (value_at c.0 (joined_changes ls))) absent ∙ i.said;
+        none_before = (none_until_earlier d c.0 e.0 l p f.none_before, i.none_before);
+      }
+
+  -- ---- the search for the next change, from the oldest run to the newest
+
+  abbrev pub AreEmpty : List (Changes V) → Type 0
+  AreEmpty runs = AllByRecursion (λ run. run ≡ []) runs
+
+  module _ (runs : List (Changes V)) (at : ℕ) (l : Changes V) (p : 0 < at) (w : at ≤ length runs) (is : l ≡ slice_index_or runs (at - 1) l) where
+    pub found_same : {X : Type 0} (f : X → List ℕ × Option V) (x : Option X) → l ≡ [] → MatchOption x (AreEmpty (drop at runs)) (λ c. IsNextSaid d (f c) (drop at runs)) → MatchOption x (AreEmpty (drop (at - 1) runs)) (λ c. IsNextSaid d (f c) (drop (at - 1) runs))
+    found_same f None e h = subst AreEmpty (sym (front_item runs at l p w is)) (e, h)
+    found_same f (Some c) e i =
+        subst (λ (ls : List (Changes V)). IsNextSaid d (f c) ls) (sym (front_item runs at l p w is))
+        (record {
+          said = ap (λ (x : Changes V). value_at (f c).0 (joined_changes (x ∷ drop at runs))) e ∙ i.said;
+          none_before = (ap (λ (x : Changes V). until d (f c).0 x) e, i.none_before);
+        })
+
+    parts_rise : AllByRecursion IsRising runs → AllByRecursion IsRising (l ∷ drop at runs)
+    parts_rise a = subst (λ (ls : List (Changes V)). AllByRecursion IsRising ls) (front_item runs at l p w is) (all_after IsRising (at - 1) runs a)
+
+    pub found_only : (c : List ℕ × Option V) → AllByRecursion IsRising runs → BeginsWith d c l → AreEmpty (drop at runs) → IsNextSaid d c (drop (at - 1) runs)
+    found_only c a b e =
+        let rise = parts_rise a in
+        subst (λ (ls : List (Changes V)). IsNextSaid d c ls) (sym (front_item runs at l p w is))
+        (next_newest c l (drop at runs) rise.0 rise.1 b (each (λ (run : Changes V) (q : run ≡ []). ap (λ (x : Changes V). until d c.0 x) q) (drop at runs) e))
+
+    -- the newer run's next key may be the same as the key found so far
+    pub found_newer : (c e : List ℕ × Option V) → AllByRecursion IsRising runs → BeginsWith d e l → IsNextSaid d c (drop at runs) → precedes d c.0 e.0 ≡ false → IsNextSaid d e (drop (at - 1) runs)
+    found_newer c e a b i n =
+        let rise = parts_rise a in
+        subst (λ (ls : List (Changes V)). IsNextSaid d e ls) (sym (front_item runs at l p w is))
+        (next_newest e l (drop at runs) rise.0 rise.1 b (each (λ (run : Changes V) (q : until d c.0 run ≡ []). none_until_not_after d c.0 e.0 run n q) (drop at runs) i.none_before))
+
+    pub found_older : (c e : List ℕ × Option V) → AllByRecursion IsRising runs → BeginsWith d e l → IsNextSaid d c (drop at runs) → precedes d c.0 e.0 ≡ true → IsNextSaid d c (drop (at - 1) runs)
+    found_older c e a b i t =
+        let rise = parts_rise a in
+        subst (λ (ls : List (Changes V)). IsNextSaid d c ls) (sym (front_item runs at l p w is))
+        (next_older c e l (drop at runs) rise.0 rise.1 b i t)
+
+  -- ---- all changes
+
+  pub nothing_said : (runs : List (Changes V)) → AreEmpty runs → joined_changes runs ≡ []
+  nothing_said [] a = refl
+  nothing_said (run ∷ runs) a = ap (λ (x : Changes V). joined_changes (x ∷ runs)) a.0 ∙ nothing_said runs a.1
+
+  pub all_empty : (f : Changes V → Changes V) (runs : List (Changes V)) → AllByRecursion (λ run. f run ≡ []) runs → AreEmpty (map f runs)
+  all_empty f [] a = tt
+  all_empty f (run ∷ runs) a = (a.0, all_empty f runs a.1)
+
+  -- the change that was found is the next of all, and the others are those of the runs after its key
+  pub said_next : (c : List ℕ × Option V) (runs later : List (Changes V)) → AllByRecursion IsRising runs → IsNextSaid d c runs → later ≡ map (after d c.0) runs → IsNext d (joined_changes runs) c (joined_changes later)
+  said_next c runs later a i m =
+      let none : until d c.0 (joined_changes runs) ≡ [] =
+      passing-joined_changes (λ j. precedes d j c.0) runs a ∙ nothing_said (map (until d c.0) runs) (all_empty (until d c.0) runs i.none_before) in
+      let rest : after d c.0 (joined_changes runs) ≡ joined_changes later =
+      passing-joined_changes (λ j. precedes d c.0 j) runs a ∙ ap (λ (x : List (Changes V)). joined_changes x) (sym m) in
+      subst (λ (x : Changes V). IsNext d (joined_changes runs) c x) rest (next_there d c.0 c.1 (joined_changes runs) (joined_changes-rises runs a) i.said none)
+
+  pub later_rise : (k : List ℕ) (runs later : List (Changes V)) → AllByRecursion IsRising runs → later ≡ map (after d k) runs → AllByRecursion IsRising later
+  later_rise k runs later a m = subst (λ (x : List (Changes V)). AllByRecursion IsRising x) (sym m) (rising-passing (λ j. precedes d k j) runs a)
+
+  -- ---- the steps of the merge
+
+  -- at the start, the remaining entries of all lists together are the leaf's pairs beyond the edge
+  pub merge_starts : (under : List ℕ → Bool) (p : Layers V) (left : List (List ℕ × V)) (items : List (Changes V)) (changes : Changes V) → IsInOrder p → left ≡ beyond d under p.base → items ≡ map (beyond d under) p.runs → joined_changes items ≡ changes
+      → with_run left changes ≡ beyond d under (entries_of p)
+  merge_starts under p left items changes a n m h =
+      ap (λ (x : List (List ℕ × V)). with_run x changes) n
+      ∙ ap (λ (x : Changes V). with_run (beyond d under p.base) x) (sym h ∙ ap (λ (x : List (Changes V)). joined_changes x) m)
+      ∙ passing-entries (λ j. is_beyond d under j) p a
+
+  -- the entries of pairs with changes at a key, and after it, from those of each list
+  module _ (k : List ℕ) (es : List (List ℕ × V)) (cs : Changes V) (r : IsRising es) (s : IsRising cs) (ne : until d k es ≡ []) (nc : until d k cs ≡ []) where
+    none_before_both : until d k (with_run es cs) ≡ []
+    none_before_both =
+        passing-with_run (λ j. precedes d j k) es cs r s
+        ∙ ap (λ (x : List (List ℕ × V)). with_run x (until d k cs)) ne ∙ ap (λ (x : Changes V). with_run [] x) nc
+
+    after_both : after d k (with_run es cs) ≡ with_run (after d k es) (after d k cs)
+    after_both = passing-with_run (λ j. precedes d k j) es cs r s
+
+    step_by : (o : Option V) → value_at k (with_run es cs) ≡ o → with_run es cs ≡ in_turn d (pair_if k o) (with_run (after d k es) (after d k cs))
+    step_by None h = none_there d k (with_run es cs) (rising-with_run es cs r) h none_before_both ∙ after_both ∙ sym (nothing_first d (with_run (after d k es) (after d k cs)))
+    step_by (Some v) h =
+        next_in_turn d (k, v) (with_run es cs) (after d k (with_run es cs)) (next_there d k v (with_run es cs) (rising-with_run es cs r) h none_before_both)
+        ∙ ap (λ (x : List (List ℕ × V)). in_turn d ((k, v) ∷ []) x) after_both
+
+    pub step_at : (o : Option V) → change_or (value_at k cs) (value_at k es) ≡ o → with_run es cs ≡ in_turn d (pair_if k o) (with_run (after d k es) (after d k cs))
+    step_at o h = step_by o (value_at-with_run es cs k r s ∙ h)
+
+  -- a change is removed
+  pub change_taken : (k : List ℕ) (o : Option V) (es later : List (List ℕ × V)) (cs rest : Changes V) → IsRising es → IsRising cs → IsNext d cs (k, o) rest → until d k es ≡ [] → later ≡ after d k es
+      → (with_run es cs ≡ in_turn d (pair_if k o) (with_run later rest)) × (length rest < length cs)
+  change_taken k o es later cs rest r s h n b =
+      let f = first_there d (k, o) cs rest s h in
+      let said : change_or (value_at k cs) (value_at k es) ≡ o = ap (λ (x : Option (Option V)). change_or x (value_at k es)) f.value in (
+        step_at k es cs r s n f.none_before o said
+            ∙ ap (λ (x : Changes V). in_turn d (pair_if k o) (with_run (after d k es) x)) f.others
+            ∙ ap (λ (x : List (List ℕ × V)). in_turn d (pair_if k o) (with_run x rest)) (sym b),
+        one_less d (k, o) cs rest h,
+      )
+
+  -- a pair of the base is removed, before which no change comes
+  pub pair_taken : (k : List ℕ) (v : V) (es rest : List (List ℕ × V)) (cs : Changes V) → IsRising es → IsRising cs → IsNext d es (k, v) rest → ArePairsNext d cs es → IsNext d (with_run es cs) (k, v) (with_run rest cs)
+  pair_taken k v es rest cs r s h a =
+      let f = first_there d (k, v) es rest r h in
+      let later : AllByRecursion (λ c. precedes d k c.0 ≡ true) cs = a.none_until (k, v) (record { rest = rest; parts = h }) in
+      let all : after d k cs ≡ cs = passes_all (λ (c : List ℕ × Option V). precedes d k c.0) cs later in
+      let none : until d k cs ≡ [] = none_of d k cs later in
+      let absent : value_at k cs ≡ None =
+      ap (λ (x : Changes V). value_at k x) (sym all) ∙ value_at-passing (λ j. precedes d k j) cs k ∙ ap (λ (t : Bool). cond t (value_at k cs) None) (not_itself d k) in
+      let said : change_or (value_at k cs) (value_at k es) ≡ Some v = ap (λ (x : Option (Option V)). change_or x (value_at k es)) absent ∙ f.value in
+      in_turn_next d (k, v) (with_run es cs) (with_run rest cs)
+      (step_at k es cs r s f.none_before none (Some v) said
+      ∙ ap (λ (x : List (List ℕ × V)). in_turn d ((k, v) ∷ []) (with_run x (after d k cs))) f.others
+      ∙ ap (λ (x : Changes V). in_turn d ((k, v) ∷ []) (with_run rest x)) all)
+
+  pub nothing_taken : (es : List (List ℕ × V)) (cs : Changes V) → es ≡ [] → ArePairsNext d cs es → with_run es cs ≡ []
+  nothing_taken es cs e a = ap (λ (x : List (List ℕ × V)). with_run x cs) e ∙ ap (λ (x : Changes V). with_run [] x) (a.none e)
+
+  -- if a pair comes before the next change, all changes come after the next pair
+  pub pairs_are_next : (k : List ℕ) (o : Option V) (cs rest : Changes V) (es : List (List ℕ × V)) → IsRising es → IsRising cs → IsNext d cs (k, o) rest → HasUntil d k es → ArePairsNext d cs es
+  pairs_are_next k o cs rest es r s h u = record {
+    none = λ e. absurd (never_empty d u.first u.begins.rest (subst (λ (x : List (List ℕ × V)). IsNext d x u.first u.begins.rest) e u.begins.parts));
+    none_until = λ e b. each (λ (c : List ℕ × Option V) (q : precedes d c.0 k ≡ false). goes_before d e.0 k c.0 (first_before e b) q) cs (none_passes (λ (c : List ℕ × Option V). precedes d c.0 k) cs (first_there d (k, o) cs rest s h).none_before);
+  }
+    where
+      -- any next pair has the key of that pair
+      first_before : (e : List ℕ × V) → BeginsWith d e es → precedes d e.0 k ≡ true
+      first_before e b = subst (λ (j : List ℕ). precedes d j k ≡ true) (same_first d u.first e es u.begins.rest b.rest r u.begins.parts b.parts) u.before
+
+-- ---- the next of all changes, as an option
+
+-- the changes of runs are the next change, if there is one, and those after it
+pub said_with : {V X : Type 0} (d : Direction) (f : X → List ℕ × Option V) (x : Option X) (runs later : List (Changes V)) → MatchOption x (joined_changes runs ≡ []) (λ c. IsNext d (joined_changes runs) (f c) (joined_changes later)) → joined_changes runs ≡ changes_with d (option_map f x) (joined_changes later)
+said_with d f None runs later h = h
+said_with d f (Some c) runs later h = next_in_turn d (f c) (joined_changes runs) (joined_changes later) h
+
+-- ---- the next pair that is present
+
+module _ {V : Type 0} (d : Direction) (k : List ℕ) (said : Option V) (old new whole : List (List ℕ × V)) (taken : old ≡ in_turn d (pair_if k said) new) (same : old ≡ whole) where
+  -- a deletion yields no pair
+  pub none_said : said ≡ None → new ≡ whole
+  none_said h = sym (nothing_first d new) ∙ ap (λ (o : Option V). in_turn d (pair_if k o) new) (sym h) ∙ sym taken ∙ same
+
+  pub some_said : (v : V) → said ≡ Some v → IsNext d whole (k, v) new
+  some_said v h = in_turn_next d (k, v) whole new (sym same ∙ taken ∙ ap (λ (o : Option V). in_turn d (pair_if k o) new) h)

@@ -1,19 +1,17 @@
 -- Filtering by a test on the keys commutes with merging.
-use Rattle.std.specs.Prelude.{◌≡◌, ℕ, Bool, true, false, cond, not, List, [], ◌∷◌, map, Option, Some, None}
+use Rattle.std.specs.Prelude.{◌≡◌, ℕ, Bool, true, false, cond, List, [], ◌∷◌, map, Option, Some, None}
 use Rattle.std.proofs.Common.{refl, sym, ap, ◌∙◌}
 use Rattle.std.specs.Ordering.{is_eq}
 use Rattle.std.specs.List.{filter, AllByRecursion}
 use Rattle.std.specs.List.Sorted.{IsStrictlySortedBy}
 use Rattle.keys.specs.Order.{order, IsRising}
 use Rattle.keys.specs.OrderedMap.{value_at}
-use Rattle.keys.specs.Range.{is_below}
 use Rattle.keys.proofs.MapLemmas.{passes_same, same_map}
 use Rattle.keys.proofs.RangeLemmas.{rising-filtered}
 use Rattle.delta_chain.specs.Layers.{Layers, change_or, with_run, entries_of, AllRise, IsInOrder}
 use Rattle.delta_chain.specs.Merging.{asserted, joined_changes}
 use Rattle.delta_chain.proofs.LayerLemmas.{rising-with_run, value_at-with_run}
 use Rattle.delta_chain.proofs.Overlays.{rising-asserted, rising-joined_changes, entries-joined_changes}
-use Rattle.scan.specs.Leaf.{from, pairs_after}
 
 -- the pairs whose keys pass
 abbrev pub passing : {X : Type 0} → (List ℕ → Bool) → List (List ℕ × X) → List (List ℕ × X)
@@ -32,7 +30,7 @@ module _ {X : Type 0} (test : List ℕ → Bool) where
   nothing_by true = refl
   nothing_by false = refl
 
-  -- they have at a key that passes what all of them have, and nothing at another
+  -- at a key that passes they have the same value as all pairs, and at other keys none
   pub value_at-passing : (es : List (List ℕ × X)) (k : List ℕ) → value_at k (passing test es) ≡ cond (test k) (value_at k es) None
   value_at-passing [] k = nothing_by (test k)
   value_at-passing (e ∷ es) k =
@@ -78,7 +76,7 @@ module _ {V : Type 0} where
   unfolding IsStrictlySortedBy
   joined_changes-rises runs a = rising-joined_changes runs [] (all_rise runs [] a tt)
 
-  -- what runs say together
+  -- the merged changes of runs
   pub passing-joined_changes : (test : List ℕ → Bool) (runs : List (List (List ℕ × Option V))) → AllByRecursion IsRising runs → passing test (joined_changes runs) ≡ joined_changes (map (passing test) runs)
   passing-joined_changes test [] a = refl
   passing-joined_changes test (run ∷ runs) a =
@@ -90,31 +88,18 @@ module _ {V : Type 0} where
   rising-passing test [] a = tt
   rising-passing test (run ∷ runs) a = (rising-filtered (λ e. test e.0) run a.0, rising-passing test runs a.1)
 
-  -- ---- after a key, and from a key on
-
-  pub pairs_after-joined_changes : (k : List ℕ) (runs : List (List (List ℕ × Option V))) → AllByRecursion IsRising runs → pairs_after k (joined_changes runs) ≡ joined_changes (map (pairs_after k) runs)
-  pairs_after-joined_changes k runs a = passing-joined_changes (λ j. is_below k j) runs a
-
-  pub rising-after_all : (k : List ℕ) (runs : List (List (List ℕ × Option V))) → AllByRecursion IsRising runs → AllByRecursion IsRising (map (pairs_after k) runs)
-  rising-after_all k runs a = rising-passing (λ j. is_below k j) runs a
+  -- ---- the lists of a page
 
   pub rising-passing_all : (test : List ℕ → Bool) (p : Layers V) → IsInOrder p → AllByRecursion IsRising (map (passing test) p.runs)
   rising-passing_all test p a = rising-passing test p.runs (each_rises p.runs p.base a).0
 
-  pub rising-from_all : (k : List ℕ) (p : Layers V) → IsInOrder p → AllByRecursion IsRising (map (from k) p.runs)
-  rising-from_all k p a = rising-passing_all (λ j. not (is_below j k)) p a
-
   pub rising-base_of : (p : Layers V) → IsInOrder p → IsRising p.base
   rising-base_of p a = (each_rises p.runs p.base a).1
 
-  -- a page's entries that pass, from those that pass of its lists
+  -- the entries of a page that pass, from the entries of its lists that pass
   pub passing-entries : (test : List ℕ → Bool) (p : Layers V) → IsInOrder p → with_run (passing test p.base) (joined_changes (map (passing test) p.runs)) ≡ passing test (entries_of p)
   passing-entries test p a =
       let each = each_rises p.runs p.base a in
       ap (λ (x : List (List ℕ × Option V)). with_run (passing test p.base) x) (sym (passing-joined_changes test p.runs each.0))
       ∙ sym (passing-with_run test p.base (joined_changes p.runs) each.1 (joined_changes-rises p.runs each.0))
       ∙ ap (λ (x : List (List ℕ × V)). passing test x) (entries-joined_changes p.runs p.base a)
-
-  -- those from a key on
-  pub from-entries : (k : List ℕ) (p : Layers V) → IsInOrder p → with_run (from k p.base) (joined_changes (map (from k) p.runs)) ≡ from k (entries_of p)
-  from-entries k p a = passing-entries (λ j. not (is_below j k)) p a

@@ -1,17 +1,16 @@
--- Lemmas on the path of a walk over the leaves of a tree.
-use Rattle.std.specs.Prelude.{◌≡◌, ℕ, zero, suc, ◌+◌, List, [], ◌∷◌, ◌++◌, map, length, Some, None}
-use Rattle.std.proofs.Common.{refl, sym, ap, ◌∙◌, subst, arith, append_assoc, append-nil}
+-- Lemmas on the path of an iteration over the leaves of a tree.
+use Rattle.std.specs.Prelude.{◌≡◌, ℕ, zero, suc, ◌+◌, List, [], ◌∷◌, ◌++◌, map, length, Some}
+use Rattle.std.proofs.Common.{refl, ap, ◌∙◌, subst, arith, append-nil}
 use Rattle.std.specs.List.{AllByRecursion}
 use Rattle.std.specs.Map.{values_of}
 use Rattle.std.proofs.lemmas.Grind.{flat_map-append}
 use Rattle.std.proofs.lemmas.List.{map-append}
 use Rattle.index_page.specs.Page.{Page, PageOfKind, IsIndex}
 use Rattle.index_page.specs.Page.PageOfKind.{Leaf, Index}
-use Rattle.index_page.specs.Children.{child_entries, children_within}
+use Rattle.index_page.specs.Children.{child_entries}
 use Rattle.mapping.specs.Tree.{page_at}
 use Rattle.mapping.specs.Levels.{Placed, entries, joined, as_leaf, as_index, index_at}
-use Rattle.scan.specs.Path.{entries_at, leaves_under, leaves_from_first, leaves_from, leaves_left, leaf_under, leaf_pages, IsKnown, ArePathOf}
-use Rattle.scan.proofs.CutLemmas.{cut, all_kept, kept-from-nothing}
+use Rattle.scan.specs.Path.{entries_at, leaves_under, leaf_under, leaf_pages, IsKnown, ArePathOf}
 
 module _ (ps : List (ℕ × PageOfKind)) where
   -- ---- leaves below lists of pages
@@ -31,14 +30,7 @@ module _ (ps : List (ℕ × PageOfKind)) where
   pub leaf_pages-append : (xs ys : List ℕ) → leaf_pages ps (xs ++ ys) ≡ leaf_pages ps xs ++ leaf_pages ps ys
   leaf_pages-append xs ys = map-append (leaf_under ps) xs ys
 
-  -- ---- one page more on a path, and one less
-
-  pub left-push : (n m : ℕ) (path : List (List ℕ)) (pids : List ℕ) → length path + suc m ≡ n → leaves_left ps n (path ++ pids ∷ []) ≡ leaves_under ps m pids ++ leaves_left ps n path
-  left-push zero m path pids h = absurd (omega arith)
-  left-push (suc n) m [] pids h = let same : n ≡ m = omega arith in rw same (sym (append-nil (leaves_under ps m pids)))
-  left-push (suc n) m (qs ∷ path) pids h =
-      ap (λ (x : List ℕ). x ++ leaves_under ps n qs) (left-push n m path pids (omega arith))
-      ∙ append_assoc (leaves_under ps m pids) (leaves_left ps n path) (leaves_under ps n qs)
+  -- ---- a page is pushed onto a path, or popped
 
   pub path-push : (n m : ℕ) (path : List (List ℕ)) (pids : List ℕ) → length path + suc m ≡ n → ArePathOf ps n path → AllByRecursion (IsKnown ps m) pids → ArePathOf ps n (path ++ pids ∷ [])
   path-push zero m path pids h a k = absurd (omega arith)
@@ -60,36 +52,9 @@ module _ (ps : List (ℕ × PageOfKind)) where
       let h = t.height in
       record { level = t.level; height = omega (arith, h); known = t.known; below = (a.0, t.below) }
 
-  -- ---- a page on the path
+  -- ---- an index page
 
-  -- at an index page, the descent continues at the first of the children that are kept; there is one
-  pub record IsStep (n : ℕ) (key : List ℕ) (pid : ℕ) (kept : List ℕ) : Type 0 where
-    pub level : ℕ
-    pub height : suc level ≡ n
-    pub first : ℕ
-    pub rest : List ℕ
-    pub parts : kept ≡ first ∷ rest
-    pub known : IsKnown ps level first
-    pub others : AllByRecursion (IsKnown ps level) rest
-    pub leaves : leaves_from ps n key pid ≡ leaves_from ps level key first ++ leaves_under ps level rest
-
-  at_index_by : (n pid : ℕ) (key : List ℕ) (page : PageOfKind) → IsKnown ps (suc n) pid → child_entries page ≡ entries_at ps pid → IsStep (suc n) key pid (values_of (children_within key None (child_entries page)))
-  at_index_by n pid key page k e =
-      let c = cut key (entries_at ps pid) k.1 k.2 in
-      let all : AllByRecursion (IsKnown ps n) (values_of (c.first ∷ c.rest)) =
-      subst (λ (es : List (List ℕ × ℕ)). AllByRecursion (IsKnown ps n) (values_of es)) c.kept (all_kept key (IsKnown ps n) (entries_at ps pid) k.3) in
-      record {
-        level = n;
-        height = refl;
-        first = c.first.1;
-        rest = values_of c.rest;
-        parts = ap (λ (es : List (List ℕ × ℕ)). values_of (children_within key None es)) e ∙ ap (λ (es : List (List ℕ × ℕ)). values_of es) c.kept;
-        known = all.0;
-        others = all.1;
-        leaves = ap (λ (es : List (List ℕ × ℕ)). leaves_from_first (λ (f : List ℕ × ℕ). leaves_from ps n key f.1) (leaves_under ps n) es) c.kept;
-      }
-
-  -- a page that is known and no leaf: a level above the leaves, with the entries of the page there
+  -- the page is an index page with these entries, `level + 1` levels above the leaves
   pub record IsIndexAt (n pid : ℕ) (page : PageOfKind) : Type 0 where
     pub level : ℕ
     pub height : suc level ≡ n
@@ -107,26 +72,6 @@ module _ (ps : List (ℕ × PageOfKind)) where
       same : (page : PageOfKind) (p : Page ℕ) → Some page ≡ Some (Index p) → child_entries page ≡ child_entries (Index p)
       same page p e = let eq : page ≡ Index p = cc in ap (λ (x : PageOfKind). child_entries x) eq
 
-  pub at_index : (n pid : ℕ) (key : List ℕ) (page : PageOfKind) → IsKnown ps n pid → Some page ≡ page_at ps pid → IsIndex page → IsStep n key pid (values_of (children_within key None (child_entries page)))
-  at_index n pid key page k h i =
-      let x = index_page_at n pid page k h i in
-      subst (λ (m : ℕ). IsStep m key pid (values_of (children_within key None (child_entries page)))) x.height (at_index_by x.level pid key page x.known x.entries)
-
-  -- ---- a descent for the empty key reaches all leaves
-
   pub under-none : (n : ℕ) → leaves_under ps n [] ≡ []
   under-none zero = refl
   under-none (suc n) = under-none n
-
-  first-from-nothing : (n : ℕ) (es : List (List ℕ × ℕ)) → ((pid : ℕ) → IsKnown ps n pid → leaves_from ps n [] pid ≡ leaves_under ps n (pid ∷ [])) → AllByRecursion (IsKnown ps n) (values_of es)
-      → leaves_from_first (λ (e : List ℕ × ℕ). leaves_from ps n [] e.1) (leaves_under ps n) es ≡ leaves_under ps n (values_of es)
-  first-from-nothing n [] f a = sym (under-none n)
-  first-from-nothing n (e ∷ es) f a =
-      ap (λ (x : List ℕ). x ++ leaves_under ps n (values_of es)) (f e.1 a.0) ∙ sym (leaves_under-append n (e.1 ∷ []) (values_of es))
-
-  pub from-nothing : (n pid : ℕ) → IsKnown ps n pid → leaves_from ps n [] pid ≡ leaves_under ps n (pid ∷ [])
-  from-nothing zero pid k = refl
-  from-nothing (suc n) pid k =
-      ap (λ (es : List (List ℕ × ℕ)). leaves_from_first (λ (e : List ℕ × ℕ). leaves_from ps n [] e.1) (leaves_under ps n) es) (kept-from-nothing (entries_at ps pid) k.1 k.2)
-      ∙ first-from-nothing n (entries_at ps pid) (λ q h. from-nothing n q h) k.3
-      ∙ sym (leaves_under-one n pid)

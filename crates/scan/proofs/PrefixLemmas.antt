@@ -1,22 +1,16 @@
--- Keys that begin with a prefix are contiguous, and the first of them is at or above the prefix.
-use Rattle.std.specs.Prelude.{◌≡◌, ℕ, ◌<◌, Bool, true, false, not, cond, List, [], ◌∷◌, ◌++◌, drop, length}
+-- Keys that begin with a prefix are neighbours in key order, and are not below the prefix.
+use Rattle.std.specs.Prelude.{◌≡◌, ℕ, ◌<◌, Bool, true, false, List, [], ◌∷◌, ◌++◌, drop, length}
 use Rattle.std.proofs.Common.{refl, sym, ap, ◌∙◌, subst, Ordering, Less, Equal, Greater}
 use Rattle.std.specs.Cmp.{ranks, nat_cmp_is}
 use Rattle.std.specs.Ordering.{nat_cmp, ordering_then, is_lt, MatchOrdering}
-use Rattle.std.specs.List.{take_while}
-use Rattle.std.specs.List.Sorted.{IsStrictlySortedBy}
-use Rattle.std.specs.Map.{keys_of}
 use Rattle.std.proofs.lemmas.Bool.Decides.{Decides-eqb}
-use Rattle.std.proofs.lemmas.List.Sums.{take_while-cons}
 use Rattle.std.proofs.lemmas.Slice.Eq.{starts_is}
-use Rattle.keys.specs.Order.{order, IsRising}
+use Rattle.keys.specs.Order.{order}
 use Rattle.keys.specs.Range.{is_below}
-use Rattle.keys.proofs.MapLemmas.{IsBelowAll}
-use Rattle.scan.specs.Leaf.{from}
-use Rattle.scan.specs.Prefix.{begins_with, with_prefix}
-use Rattle.scan.proofs.MergeLemmas.{none_below_empty}
+use Rattle.scan.specs.Prefix.{begins_with}
+use Rattle.scan.proofs.EmptyKey.{none_below_empty}
 
--- ---- a key that begins with a prefix is the prefix, and then more
+-- ---- a key that begins with a prefix is the prefix followed by more bytes
 
 pub begun : (p k : List ℕ) → begins_with p k ≡ true → k ≡ p ++ drop (length p) k
 begun p k b = (starts_is Decides-eqb k p (begins_with p k) refl).0 b
@@ -27,12 +21,12 @@ begins p k rest e = (starts_is Decides-eqb k p (begins_with p k) refl).1 rest e
 same_byte : (x : ℕ) → nat_cmp x x ≡ Equal
 same_byte x = sym (nat_cmp_is x x Equal refl)
 
--- it isn't below the prefix
-not_below_start : (p rest : List ℕ) → is_below (p ++ rest) p ≡ false
+-- such a key isn't below the prefix
+pub not_below_start : (p rest : List ℕ) → is_below (p ++ rest) p ≡ false
 not_below_start [] rest = none_below_empty rest
 not_below_start (x ∷ p) rest = ap (λ (o : Ordering). is_lt (ordering_then o (order (p ++ rest) p))) (same_byte x) ∙ not_below_start p rest
 
--- what isn't below the prefix, and is below a key that begins with it, begins with it too
+-- a key that isn't below the prefix, and is below a key that begins with it, begins with it, too
 between_by : (o : Ordering) (x z : ℕ) (p e rest : List ℕ) → MatchOrdering o (z < x) (z ≡ x) (x < z) → is_lt (ordering_then o (order e p)) ≡ false → ordering_then o (order e (p ++ rest)) ≡ Less
     → (is_below e p ≡ false → order e (p ++ rest) ≡ Less → (more : List ℕ) × (e ≡ p ++ more)) → (more : List ℕ) × (z ∷ e ≡ x ∷ (p ++ more))
 between_by Less x z p e rest m n l ih = absurd (cc)
@@ -44,44 +38,13 @@ between [] e rest n l = (e, refl)
 between (x ∷ p) [] rest n l = absurd (cc)
 between (x ∷ p) (z ∷ e) rest n l = between_by (nat_cmp z x) x z p e rest (ranks z x) n l (λ a b. between p e rest a b)
 
--- ---- so they are contiguous
+-- ---- so such keys are neighbours
 
-lower_begins_not : (b : Bool) (p k : List ℕ) → begins_with p k ≡ b → is_below k p ≡ true → b ≡ false
+pub lower_begins_not : (b : Bool) (p k : List ℕ) → begins_with p k ≡ b → is_below k p ≡ true → b ≡ false
 lower_begins_not true p k b h = absurd (let same = begun p k b in let not_below : is_below k p ≡ false = ap (λ (j : List ℕ). is_below j p) same ∙ not_below_start p (drop (length p) k) in let wrong : true ≡ false = sym h ∙ not_below in cc)
 lower_begins_not false p k b h = refl
 
-later_begins_not : (b : Bool) (p e k : List ℕ) → begins_with p k ≡ b → begins_with p e ≡ false → is_below e p ≡ false → order e k ≡ Less → b ≡ false
+pub later_begins_not : (b : Bool) (p e k : List ℕ) → begins_with p k ≡ b → begins_with p e ≡ false → is_below e p ≡ false → order e k ≡ Less → b ≡ false
 later_begins_not true p e k b f n l =
     absurd (let r = between p e (drop (length p) k) n (subst (λ (j : List ℕ). order e j ≡ Less) (begun p k b) l) in let wrong : true ≡ false = sym (begins p e r.0 r.1) ∙ f in cc)
 later_begins_not false p e k b f n l = refl
-
-module _ {V : Type 0} (p : List ℕ) where
-  none_later : (e : List ℕ) (es : List (List ℕ × V)) → begins_with p e ≡ false → is_below e p ≡ false → IsBelowAll e (keys_of es) → with_prefix p es ≡ []
-  none_later e [] f n a = refl
-  none_later e (d ∷ es) f n a = ap (λ (b : Bool). cond b (d ∷ with_prefix p es) (with_prefix p es)) (later_begins_not (begins_with p d.0) p e d.0 refl f n a.0) ∙ none_later e es f n a.1
-
-  abbrev Run : List (List ℕ × V) → List (List ℕ × V)
-  Run es = take_while (λ (e : List ℕ × V). begins_with p e.0) es
-
-  run_by : (b c : Bool) (e : List ℕ × V) (es : List (List ℕ × V)) → is_below e.0 p ≡ b → begins_with p e.0 ≡ c → IsRising (e ∷ es) → Run (from p es) ≡ with_prefix p es → Run (from p (e ∷ es)) ≡ with_prefix p (e ∷ es)
-  unfolding IsStrictlySortedBy
-  run_by true c e es b f r ih =
-      ap (λ (d : Bool). Run (cond (not d) (e ∷ from p es) (from p es))) b ∙ ih
-      ∙ sym (ap (λ (d : Bool). cond d (e ∷ with_prefix p es) (with_prefix p es)) (lower_begins_not (begins_with p e.0) p e.0 refl b))
-  run_by false true e es b f r ih =
-      ap (λ (d : Bool). Run (cond (not d) (e ∷ from p es) (from p es))) b
-      ∙ take_while-cons (λ (d : List ℕ × V). begins_with p d.0) e (from p es)
-      ∙ ap (λ (d : Bool). cond d (e ∷ Run (from p es)) []) f
-      ∙ ap (λ (x : List (List ℕ × V)). e ∷ x) ih
-      ∙ sym (ap (λ (d : Bool). cond d (e ∷ with_prefix p es) (with_prefix p es)) f)
-  run_by false false e es b f r ih =
-      ap (λ (d : Bool). Run (cond (not d) (e ∷ from p es) (from p es))) b
-      ∙ take_while-cons (λ (d : List ℕ × V). begins_with p d.0) e (from p es)
-      ∙ ap (λ (d : Bool). cond d (e ∷ Run (from p es)) []) f
-      ∙ sym (ap (λ (d : Bool). cond d (e ∷ with_prefix p es) (with_prefix p es)) f ∙ none_later e.0 es f b r.0)
-
-  -- of the pairs from the prefix on, the first ones up to one that doesn't begin with it are all that do
-  pub prefix-run : (es : List (List ℕ × V)) → IsRising es → Run (from p es) ≡ with_prefix p es
-  unfolding IsStrictlySortedBy
-  prefix-run [] r = refl
-  prefix-run (e ∷ es) r = run_by (is_below e.0 p) (begins_with p e.0) e es refl refl r (prefix-run es r.1)

@@ -1,46 +1,26 @@
--- Lemmas on a tree's pages, each with the leaves below it: these tile the page's range of keys.
-use Rattle.std.specs.Prelude.{◌≡◌, ℕ, zero, suc, pred, ◌+◌, ◌<◌, false, not, List, [], ◌∷◌, ◌++◌, map, length, Option, Some, None}
-use Rattle.std.proofs.Common.{refl, sym, ap, ◌∙◌, subst, arith, append-nil, append_assoc, inl, inr, Less}
+-- Lemmas on the pages of a tree and the leaves below each page, which tile the page's range of keys.
+use Rattle.std.specs.Prelude.{◌≡◌, ℕ, zero, suc, pred, ◌+◌, ◌<◌, List, [], ◌∷◌, ◌++◌, map, length, Option, Some, None}
+use Rattle.std.proofs.Common.{refl, sym, ap, ◌∙◌, subst, arith}
 use Rattle.std.specs.List.{AllByRecursion}
-use Rattle.std.specs.Map.{keys_of, values_of}
+use Rattle.std.specs.Map.{values_of}
 use Rattle.std.proofs.lemmas.List.{map-append}
-use Rattle.std.proofs.lemmas.List.Elements.{filter-append}
 use Rattle.std.proofs.lemmas.Grind.{flat_map-append}
-use Rattle.keys.specs.Order.{order, IsRising}
+use Rattle.keys.specs.Order.{IsRising}
 use Rattle.delta_chain.specs.Layers.{entries_of}
 use Rattle.index_page.specs.Page as page
 use Rattle.index_page.specs.Page.{Page, PageOfKind, first_key}
 use Rattle.index_page.specs.Page.PageOfKind.{Leaf, Index}
-use Rattle.index_page.specs.Range.{is_below, AreBelow, AreFrom}
 use Rattle.index_page.specs.Rules.{IsHeaded}
 use Rattle.index_page.specs.Children.{Place, children}
 use Rattle.index_page.proofs.ListLemmas.{all_apart}
-use Rattle.index_page.proofs.RangeLemmas.{less_through, less_is_below, from_lower}
 use Rattle.index_page.proofs.ChildLemmas.{next_key, place_of, children-cons, children-append}
 use Rattle.mapping.specs.Tree.{Tree, page_at}
 use Rattle.mapping.specs.Levels.{Placed, Levels, entries, joined, name, names, as_leaf, as_index, leaf_at, index_at, levels_below, levels_of, contents, first_pid, top_pid}
 use Rattle.mapping.specs.Proper.{next_low, IsTile, Tiled, Stacked, AreLevels, HasLeaves, HasIndexPages, HoldsLevels}
-use Rattle.mapping.proofs.TileLemmas.{next_low-append, tiled-append, next_names, from-joined, before-joined, rising-joined, rising-tile, next_low-parents}
+use Rattle.mapping.proofs.TileLemmas.{next_low-append, tiled-append, next_names, rising-joined, rising-tile, next_low-parents, Separators}
 use Rattle.mapping.proofs.Joined.{next_joined}
-use Rattle.scan.specs.Path.{entries_at, leaves_under, leaves_from_first, leaves_from, leaf_under, leaf_pages, pairs, IsKnown}
-use Rattle.scan.specs.Leaf.{from}
-use Rattle.scan.proofs.CutLemmas.{Separators, cut}
+use Rattle.scan.specs.Path.{entries_at, leaves_under, leaf_under, leaf_pages, pairs, IsKnown}
 use Rattle.scan.proofs.PathLemmas.{leaves_under-append, leaves_under-one, leaf_pages-append, under-none}
-
--- ---- pairs from a key on
-
-module _ {V : Type 0} (key : List ℕ) where
-  from-none_below : (es : List (List ℕ × V)) → AreFrom key (keys_of es) → from key es ≡ es
-  from-none_below [] a = refl
-  from-none_below (e ∷ es) a = rw a.0 (ap (λ (x : List (List ℕ × V)). e ∷ x) (from-none_below es a.1))
-
-  from-all_below : (es : List (List ℕ × V)) → AreBelow key (keys_of es) → from key es ≡ []
-  from-all_below [] a = refl
-  from-all_below (e ∷ es) a = rw a.0 (from-all_below es a.1)
-
-below_by : (k key : List ℕ) (ks : List (List ℕ)) → is_below key k ≡ false → AreBelow k ks → AreBelow key ks
-below_by k key [] h a = tt
-below_by k key (j ∷ js) h a = (less_is_below j key (less_through j key k a.0 h), below_by k key js h a.1)
 
 module _ (ps : List (ℕ × PageOfKind)) where
   -- ---- the leaves below pages
@@ -82,7 +62,7 @@ module _ (ps : List (ℕ × PageOfKind)) where
   is_known zero at s = s.0
   is_known (suc n) at s = (s.0, s.3, s.4, known_children n (entries_at ps at.pid) at.end (λ at s. is_known n at s) s.5)
 
-  -- so the leaves below children tile the range of these, and begin where the first of them does
+  -- the leaves below children tile the children's range, and begin where the first child begins
   pub record AreTiles (n : ℕ) (es : Separators) (end : Option (List ℕ)) : Type 0 where
     pub tiled : Tiled (leaves n (values_of es)) end
     pub begins : (x : Option (List ℕ)) → next_low (leaves n (values_of es)) x ≡ next_key es x
@@ -201,102 +181,8 @@ module _ (ps : List (ℕ × PageOfKind)) where
   leaves-below zero level above = refl
   leaves-below (suc n) level above = let here : List (Placed ℕ) = map (index_at ps) level in leaves-below n (values_of (joined here)) (here ∷ above)
 
-  -- ---- a descent skips only pairs below its key
-
-  pub record IsFrom (key : List ℕ) (all found : List ℕ) : Type 0 where
-    pub before : List ℕ
-    pub whole : all ≡ before ++ found
-    pub first : ℕ
-    pub rest : List ℕ
-    pub parts : found ≡ first ∷ rest
-    pub kept : from key (pairs (leaf_pages ps all)) ≡ from key (page.entries (leaf_under ps first)) ++ pairs (leaf_pages ps rest)
-
   pub pairs-append : (xs ys : List ℕ) → pairs (leaf_pages ps (xs ++ ys)) ≡ pairs (leaf_pages ps xs) ++ pairs (leaf_pages ps ys)
   pairs-append xs ys = ap (λ (x : List (Page (List ℕ))). pairs x) (leaf_pages-append ps xs ys) ∙ flat_map-append page.entries (leaf_pages ps xs) (leaf_pages ps ys)
-
-  -- if the leaves of the first part lie below the key, and those of the last from it on
-  three_parts : (key : List ℕ) (before here rest all found : List ℕ) → all ≡ before ++ (here ++ rest) → from key (pairs (leaf_pages ps before)) ≡ [] → from key (pairs (leaf_pages ps rest)) ≡ pairs (leaf_pages ps rest)
-      → IsFrom key here found → IsFrom key all (found ++ rest)
-  three_parts key before here rest all found e b r f =
-      let p : List ℕ → List (List ℕ × List ℕ) = λ pids. pairs (leaf_pages ps pids) in
-      record {
-        before = before ++ f.before;
-        whole =
-            e
-            ∙ ap (λ (x : List ℕ). before ++ (x ++ rest)) f.whole
-            ∙ ap (λ (x : List ℕ). before ++ x) (append_assoc f.before found rest)
-            ∙ sym (append_assoc before f.before (found ++ rest));
-        first = f.first;
-        rest = f.rest ++ rest;
-        parts = ap (λ (x : List ℕ). x ++ rest) f.parts;
-        kept =
-            ap (λ (x : List ℕ). from key (p x)) e
-            ∙ ap (λ (x : List (List ℕ × List ℕ)). from key x) (pairs-append before (here ++ rest))
-            ∙ filter-append (λ (x : List ℕ × List ℕ). not (is_below x.0 key)) (p before) (p (here ++ rest))
-            ∙ ap (λ (x : List (List ℕ × List ℕ)). x ++ from key (p (here ++ rest))) b
-            ∙ ap (λ (x : List (List ℕ × List ℕ)). from key x) (pairs-append here rest)
-            ∙ filter-append (λ (x : List ℕ × List ℕ). not (is_below x.0 key)) (p here) (p rest)
-            ∙ ap (λ (x : List (List ℕ × List ℕ)). x ++ from key (p rest)) f.kept
-            ∙ ap (λ (x : List (List ℕ × List ℕ)). from key (page.entries (leaf_under ps f.first)) ++ p f.rest ++ x) r
-            ∙ append_assoc (from key (page.entries (leaf_under ps f.first))) (p f.rest) (p rest)
-            ∙ ap (λ (x : List (List ℕ × List ℕ)). from key (page.entries (leaf_under ps f.first)) ++ x) (sym (pairs-append f.rest rest));
-      }
-
-  from-first : (key low : List ℕ) (ls : List (Placed (List ℕ))) (end : Option (List ℕ)) → Tiled ls end → next_low ls None ≡ Some low → order key low ≡ Less → AreFrom key (keys_of (joined ls))
-  from-first key low [] end t e l = absurd (cc)
-  from-first key low (p ∷ ls) end t e l =
-      let same : p.page.low ≡ low = cc in
-      from_lower key p.page.low (keys_of (joined (p ∷ ls))) (subst (λ (j : List ℕ). order key j ≡ Less) (sym same) l) (from-joined p ls end t)
-
-  -- the pairs below children that begin above the key
-  from-rest : (n : ℕ) (key : List ℕ) (es : Separators) (end : Option (List ℕ)) → AllByRecursion (IsSubtree n) (children es end) → AllByRecursion (λ j. order key j ≡ Less) (keys_of es)
-      → from key (pairs (leaf_pages ps (leaves_under ps n (values_of es)))) ≡ pairs (leaf_pages ps (leaves_under ps n (values_of es)))
-  from-rest n key [] end a b = ap (λ (x : List ℕ). from key (pairs (leaf_pages ps x))) (under-none ps n) ∙ sym (ap (λ (x : List ℕ). pairs (leaf_pages ps x)) (under-none ps n))
-  from-rest n key (e ∷ es) end a b =
-      let t = tiles n (e ∷ es) end a in
-      let keys = from-first key e.0 (leaves n (values_of (e ∷ es))) end t.tiled (t.begins None) b.0 in
-      from-none_below key (pairs (leaf_pages ps (leaves_under ps n (values_of (e ∷ es)))))
-      (subst (λ (x : List (List ℕ × List ℕ)). AreFrom key (keys_of x)) (joined-leaves (leaves_under ps n (values_of (e ∷ es)))) keys)
-
-  -- the pairs below children that end where the key is, or before it
-  from-before : (n : ℕ) (key low : List ℕ) (es : Separators) → AllByRecursion (IsSubtree n) (children es (Some low)) → is_below key low ≡ false → from key (pairs (leaf_pages ps (leaves_under ps n (values_of es)))) ≡ []
-  from-before n key low es a h =
-      let t = tiles n es (Some low) a in
-      let keys : AreBelow low (keys_of (joined (leaves n (values_of es)))) = before-joined (leaves n (values_of es)) (Some low) t.tiled in
-      from-all_below key (pairs (leaf_pages ps (leaves_under ps n (values_of es))))
-      (below_by low key (keys_of (pairs (leaf_pages ps (leaves_under ps n (values_of es))))) h (subst (λ (x : List (List ℕ × List ℕ)). AreBelow low (keys_of x)) (joined-leaves (leaves_under ps n (values_of es))) keys))
-
-  pub way_down : (n : ℕ) (key : List ℕ) (at : Place) → IsSubtree n at → IsFrom key (leaves_under ps n (at.pid ∷ [])) (leaves_from ps n key at.pid)
-  way_down zero key at s = record {
-    before = [];
-    whole = refl;
-    first = at.pid;
-    rest = [];
-    parts = refl;
-    kept = ap (λ (x : List (List ℕ × List ℕ)). from key x) (append-nil (page.entries (leaf_under ps at.pid))) ∙ sym (append-nil (from key (page.entries (leaf_under ps at.pid))));
-  }
-  way_down (suc n) key at s =
-      let es : Separators = entries_at ps at.pid in
-      let c = cut key es s.3 s.4 in
-      let under : List ℕ → List ℕ = λ pids. leaves_under ps n pids in
-      let all = all_apart (IsSubtree n) (children c.before (Some c.first.0)) (children (c.first ∷ c.rest) at.end)
-      (subst (λ (ats : List Place). AllByRecursion (IsSubtree n) ats) (ap (λ (x : Separators). children x at.end) c.parts ∙ children-append c.before (c.first ∷ c.rest) at.end) s.5) in
-      let others = subst (λ (ats : List Place). AllByRecursion (IsSubtree n) ats) (children-cons c.first c.rest at.end) all.1 in
-      let below : from key (pairs (leaf_pages ps (under (values_of c.before)))) ≡ [] = elim c.here [
-        | inl e ↦ ap (λ (x : Separators). from key (pairs (leaf_pages ps (under (values_of x))))) e ∙ ap (λ (x : List ℕ). from key (pairs (leaf_pages ps x))) (under-none ps n)
-        | inr h ↦ from-before n key c.first.0 c.before all.0 h
-      ] in
-      let whole : leaves_under ps (suc n) (at.pid ∷ []) ≡ under (values_of c.before) ++ (under (c.first.1 ∷ []) ++ under (values_of c.rest)) =
-      leaves_under-one ps n at.pid
-      ∙ ap (λ (x : Separators). under (values_of x)) c.parts
-      ∙ ap (λ (x : List ℕ). under x) (map-append (λ (e : List ℕ × ℕ). e.1) c.before (c.first ∷ c.rest))
-      ∙ leaves_under-append ps n (values_of c.before) (c.first.1 ∷ values_of c.rest)
-      ∙ ap (λ (x : List ℕ). under (values_of c.before) ++ x) (leaves_under-append ps n (c.first.1 ∷ []) (values_of c.rest)) in
-      let found : leaves_from ps (suc n) key at.pid ≡ leaves_from ps n key c.first.1 ++ under (values_of c.rest) =
-      ap (λ (x : Separators). leaves_from_first (λ (e : List ℕ × ℕ). leaves_from ps n key e.1) (leaves_under ps n) x) c.kept in
-      subst (λ (x : List ℕ). IsFrom key (leaves_under ps (suc n) (at.pid ∷ [])) x) (sym found)
-      (three_parts key (under (values_of c.before)) (under (c.first.1 ∷ [])) (under (values_of c.rest)) (leaves_under ps (suc n) (at.pid ∷ [])) (leaves_from ps n key c.first.1) whole below
-      (from-rest n key c.rest at.end others.1 c.pairs_after) (way_down n key (place_of c.first (next_key c.rest at.end)) others.0))
 
 -- ---- of a tree whose levels are in order
 
@@ -320,40 +206,14 @@ module _ (t : Tree) (held : HoldsLevels t.pages (levels_of t)) (levels : AreLeve
   contents-leaves =
       ap (λ (ls : List (Placed (List ℕ))). joined ls) (leaves-below t.pages (pred t.height) (t.root ∷ []) []) ∙ joined-leaves t.pages (leaves_under t.pages (pred t.height) (t.root ∷ []))
 
-  -- the pairs at or above a key are those of the first leaf that a descent reaches, and all pairs of the other leaves
-  pub contents-from : (key : List ℕ) (leaf : Page (List ℕ)) (others : List (Page (List ℕ))) → leaf_pages t.pages (leaves_from t.pages (pred t.height) key t.root) ≡ leaf ∷ others
-      → from key (contents t) ≡ from key (page.entries leaf) ++ pairs others
-  contents-from key leaf others h =
-      let w = way_down t.pages (pred t.height) key (root_place t.pages t.root) whole_tree in
-      let both : leaf_under t.pages w.first ∷ leaf_pages t.pages w.rest ≡ leaf ∷ others = sym (ap (λ (x : List ℕ). leaf_pages t.pages x) w.parts) ∙ h in
-      let first : leaf_under t.pages w.first ≡ leaf = cc in
-      let rest : leaf_pages t.pages w.rest ≡ others = cc in
-      ap (λ (x : List (List ℕ × List ℕ)). from key x) contents-leaves
-      ∙ w.kept
-      ∙ ap (λ (x : Page (List ℕ)). from key (page.entries x) ++ pairs (leaf_pages t.pages w.rest)) first
-      ∙ ap (λ (x : List (Page (List ℕ))). from key (page.entries leaf) ++ pairs x) rest
-
-  -- a descent reaches the last leaves of the level, in their order
+  -- the leaves found are the last leaves of the level, in key order
   pub record AreLast (found : List ℕ) : Type 0 where
     pub before : List (Page (List ℕ))
     pub whole : map (λ p. p.page) (levels_of t).level ≡ before ++ leaf_pages t.pages found
 
-  pages-placed : (pids : List ℕ) → map (λ (p : Placed (List ℕ)). p.page) (map (leaf_at t.pages) pids) ≡ leaf_pages t.pages pids
+  pub pages-placed : (pids : List ℕ) → map (λ (p : Placed (List ℕ)). p.page) (map (leaf_at t.pages) pids) ≡ leaf_pages t.pages pids
   pages-placed [] = refl
   pages-placed (pid ∷ pids) = ap (λ (x : List (Page (List ℕ))). leaf_under t.pages pid ∷ x) (pages-placed pids)
-
-  pub last-from : (key : List ℕ) → AreLast (leaves_from t.pages (pred t.height) key t.root)
-  last-from key =
-      let w = way_down t.pages (pred t.height) key (root_place t.pages t.root) whole_tree in
-      let under : List ℕ = leaves_under t.pages (pred t.height) (t.root ∷ []) in
-      record {
-        before = leaf_pages t.pages w.before;
-        whole =
-            ap (λ (ls : List (Placed (List ℕ))). map (λ (p : Placed (List ℕ)). p.page) ls) (leaves-below t.pages (pred t.height) (t.root ∷ []) [])
-            ∙ pages-placed under
-            ∙ ap (λ (x : List ℕ). leaf_pages t.pages x) w.whole
-            ∙ leaf_pages-append t.pages w.before (leaves_from t.pages (pred t.height) key t.root);
-      }
 
   pub contents-rise : IsRising (contents t)
   contents-rise = rising-joined (levels_of t).level None levels.tiled

@@ -1,17 +1,19 @@
--- The remaining entries of a merge of a leaf's runs and its base.
-use Rattle.std.specs.Prelude.{◌≡◌, false, List, [], ◌∷◌, Option, Some, None, ⊤}
-use Rattle.std.specs.declared.cmp.Ordering.TheVariants.{Less, Equal}
+-- The remaining entries of a merge of a leaf's runs and its base, in either direction. Lists are in key order.
+use Rattle.std.specs.Prelude.{◌≡◌, true, List, [], ◌∷◌, Option, Some, None}
 use Rattle.std.specs.List.{AllByRecursion}
 use Rattle.keys.specs.Bytes.{Bytes, Pairs, Changes}
 use Rattle.keys.specs.Order.{IsRising}
-use Rattle.keys.specs.Range.{is_below}
+use Rattle.keys.specs.OrderedMap.{value_at}
 use Rattle.delta_chain.specs.Layers.{with_run}
-use Rattle.delta_chain.specs.Merging.{first_order}
+use Rattle.delta_chain.specs.Merging.{joined_changes}
+use Rattle.scan.specs.Direction.{precedes, in_turn, until}
+use Rattle.scan.specs.RunPlace.{BeginsWith}
+use Rattle.scan.specs.declared.direction.Direction.{Direction}
 
--- a first change, if there is one, followed by others
-abbrev pub changes_after : {V : Type 0} → Option (Bytes × Option V) → Changes V → Changes V
-changes_after None cs = []
-changes_after (Some c) cs = c ∷ cs
+-- changes, and one that comes before them, if there is one
+abbrev pub changes_with : {V : Type 0} → Direction → Option (Bytes × Option V) → Changes V → Changes V
+changes_with d None cs = []
+changes_with d (Some c) cs = in_turn d (c ∷ []) cs
 
 -- changes, and the pairs that they apply to
 pub record Merged : Type 0 where
@@ -22,19 +24,21 @@ pub record Merged : Type 0 where
 abbrev pub merged : Merged → Pairs Bytes
 merged m = with_run m.pairs m.changes
 
--- no change comes before the first of the pairs
-abbrev pub ArePairsNext : {V : Type 0} → Changes V → Pairs V → Type 0
-ArePairsNext [] es = ⊤
-ArePairsNext (c ∷ cs) es = first_order es c.0 ≡ Less
+-- this is the next of the changes of the runs: a lookup in the runs finds it, and no run has a key before it
+pub record IsNextSaid {V : Type 0} (d : Direction) (c : Bytes × Option V) (runs : List (Changes V)) : Type 0 where
+  pub said : value_at c.0 (joined_changes runs) ≡ Some c.1
+  pub none_before : AllByRecursion (λ run. until d c.0 run ≡ []) runs
 
--- the first key, if there is one, is not below k
-abbrev pub StartsFrom : {V : Type 0} → Bytes → Pairs V → Type 0
-StartsFrom k [] = ⊤
-StartsFrom k (e ∷ es) = is_below e.0 k ≡ false
+-- the first of the pairs comes before k
+pub record HasUntil {V : Type 0} (d : Direction) (k : Bytes) (es : Pairs V) : Type 0 where
+  pub first : Bytes × V
+  pub begins : BeginsWith d first es
+  pub before : precedes d first.0 k ≡ true
 
--- the first key is k
-abbrev pub StartsAt : {V : Type 0} → Bytes → Pairs V → Type 0
-StartsAt k es = first_order es k ≡ Equal
+-- all changes come after the first of the pairs; without pairs there are none
+pub record ArePairsNext {V : Type 0} (d : Direction) (cs : Changes V) (es : Pairs V) : Type 0 where
+  pub none : es ≡ [] → cs ≡ []
+  pub none_until : (e : Bytes × V) → BeginsWith d e es → AllByRecursion (λ c. precedes d e.0 c.0 ≡ true) cs
 
 -- the invariant of a merge: its changes, each of its runs, and its base rise
 pub record IsMerge (cs : Changes Bytes) (rs : List (Changes Bytes)) (es : Pairs Bytes) : Type 0 where

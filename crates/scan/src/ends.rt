@@ -15,7 +15,8 @@ ghost use Rattle.scan.specs.Ends.{LacksAtMost, AreCertain, later, named_below};
 ghost use Rattle.scan.specs.Ends as ends;
 ghost use Rattle.scan.specs.Deletions.{AreReady, IsTaken, IsTakenBelow};
 
-use crate::ahead::place_from;
+use crate::direction::Upward;
+use crate::edge::{Edge, place_from};
 use crate::leaves::Leaves;
 use crate::taken::{Deletions, DeletionsBelow};
 use delta_chain::Chain;
@@ -118,9 +119,9 @@ fn room_after_wipe(
     requires held { HoldsItsLevels (tree_of tree.now) }
     requires levels { AreLevels (levels_of (tree_of tree.now)) }
 {
-    let (_first, leaves) = Leaves::new(alloc, tree, lo);
+    let (_first, mut leaves) = Leaves::<Upward>::new(alloc, tree, &Edge::After(lo));
     let mut room = room;
-    for leaf in leaves {
+    while let Some(leaf) = leaves.next() {
         if !is_before(hi, leaf.0) {
             break;
         }
@@ -239,7 +240,7 @@ fn end_of_scan<'a>(
         → IfSome result (λ end. IsEnough (keys_of (names (levels_of (tree_of tree.now)).level))
         m lo.now (option_copied hi.entry) limit end.now) }
 {
-    let (mut leaf, mut leaves) = Leaves::new(alloc, tree, lo);
+    let (mut leaf, mut leaves) = Leaves::<Upward>::new(alloc, tree, &Edge::After(lo));
     let mut before = taken.below(later(leaf.0, lo));
     let mut certain: usize = 0;
     while let Some(next) = leaves.next() {

@@ -1,14 +1,16 @@
-//! Iterates over a leaf with few runs: merges the runs with the base.
-ghost use Rattle.std.specs.Prelude.{◌≡◌, ◌<◌, ◌≤◌, ◌∷◌, ◌++◌, [], drop, length, MatchOption};
+//! Iterates over a leaf with few runs in either direction: merges the runs with the base.
+ghost use Rattle.std.specs.Prelude.{◌≡◌, ◌<◌, ◌≤◌, [], length, MatchOption};
 ghost use Rattle.std.specs.Option.{option_copied};
-ghost use Rattle.std.specs.declared.cmp.Ordering.TheVariants.{Less};
 ghost use Rattle.delta_chain.specs.Layers.{entries_of, depth_of};
-ghost use Rattle.delta_chain.specs.Merging.{first_order, pair_if};
-ghost use Rattle.scan.specs.Leaf.{from, pairs_after};
-ghost use Rattle.scan.specs.Merge.{merged, ArePairsNext, StartsFrom};
+ghost use Rattle.delta_chain.specs.Merging.{pair_if};
+ghost use Rattle.scan.specs.Direction.{IsNext, after, in_turn, left_at, until};
+ghost use Rattle.scan.specs.Edge.{beyond, is_under};
+ghost use Rattle.scan.specs.Merge.{merged, ArePairsNext, HasUntil};
 
-use crate::ahead::{Change, place_from};
 use crate::changes::{Runs, fill, next_change};
+use crate::direction::{Direction, Towards};
+use crate::edge::{Edge, count_under};
+use crate::run_place::{Change, next_place};
 use delta_chain::{Base, Chain};
 use keys::{KeyRef, Value};
 use smallvec::SmallVec;
@@ -18,41 +20,44 @@ use std::marker::Model;
 use std::mem;
 
 /// A merge of a leaf's lists, with a place in the base and in each run: each key is compared once with the next change,
-/// and a run's key with those of the other runs. Contracts see it as the remaining changes and base pairs.
+/// and a run's key with those of the other runs. Contracts see it as the remaining changes and base pairs, in key order.
 #[derive(Drop)]
-pub(crate) struct Merge<'a> {
+pub(crate) struct Merge<'a, W: Towards> {
     base: &'a Base<Value<Global>, Global>,
-    // The place of the base's next pair.
+    // The place in the base.
     at: usize,
     // The next of all changes, and the runs after it.
     change: Option<Change<'a>>,
-    runs: Runs<'a>,
+    runs: Runs<'a, W>,
 }
 
-impl<'a> Model for Merge<'a> {
-    ghost use Rattle.std.specs.Prelude.{drop};
+impl<'a, W: Towards> Model for Merge<'a, W> {
     ghost use Rattle.std.specs.Option.{option_copied, option_map};
     ghost use Rattle.delta_chain.specs.Merging.{joined_changes};
-    ghost use Rattle.scan.specs.Merge.{Merged, changes_after, IsMerge};
+    ghost use Rattle.scan.specs.Direction.{left_at};
+    ghost use Rattle.scan.specs.Merge.{Merged, changes_with, IsMerge};
 
     ghost Value = { Merged };
 
     ghost view = { λ m. record {
-      changes = changes_after (option_map (λ c. (c.0, option_copied c.1)) m.change)
+      changes = changes_with W.direction (option_map (λ c. (c.0, option_copied c.1)) m.change)
           (joined_changes m.runs.items);
-      pairs = drop m.at m.base.now;
+      pairs = left_at W.direction m.at m.base.now;
     } };
 
-    ghost invariant = { λ m. IsMerge
-        (changes_after (option_map (λ c. (c.0, option_copied c.1)) m.change)
-        (joined_changes m.runs.items))
+    ghost invariant = { λ m. IsMerge (changes_with W.direction
+        (option_map (λ c. (c.0, option_copied c.1)) m.change) (joined_changes m.runs.items))
         m.runs.items m.base.now };
 }
 
-impl<'a> Merge<'a> {
-    pub(crate) fn new(alloc: Global, chain: &'a Chain<Value<Global>, Global>, key: &[u8]) -> Self
+impl<'a, W: Towards> Merge<'a, W> {
+    pub(crate) fn new(
+        alloc: Global,
+        chain: &'a Chain<Value<Global>, Global>,
+        edge: &Edge<'_>,
+    ) -> Self
         requires { depth_of chain.now ≤ 16 }
-        ensures { merged result ≡ from key.now (entries_of chain.now) }
+        ensures { merged result ≡ beyond W.direction (is_under edge.now) (entries_of chain.now) }
     {
         let _in_order = chain.depth();
         let mut merge = Merge {
@@ -61,19 +66,19 @@ impl<'a> Merge<'a> {
             change: None,
             runs: SmallVec::new(alloc),
         };
-        merge.restart(chain, key);
+        merge.restart(chain, edge);
         merge
     }
 
-    // Starts again with another leaf, from `key` on. Takes one binary search in each list.
-    pub(crate) fn restart(&mut self, chain: &'a Chain<Value<Global>, Global>, key: &[u8])
+    // Starts again with another leaf, at the edge. Takes one binary search in each list.
+    pub(crate) fn restart(&mut self, chain: &'a Chain<Value<Global>, Global>, edge: &Edge<'_>)
         requires { depth_of chain.now ≤ 16 }
-        ensures { merged self.new ≡ from key.now (entries_of chain.now) }
+        ensures { merged self.new ≡ beyond W.direction (is_under edge.now) (entries_of chain.now) }
     {
         let _in_order = chain.depth();
         self.base = chain.base();
-        self.at = place_from(self.base, key);
-        fill(&mut self.runs, chain, key);
+        self.at = count_under(self.base, edge);
+        fill(&mut self.runs, chain, edge);
         self.change = next_change(&mut self.runs);
     }
 
@@ -81,12 +86,14 @@ impl<'a> Merge<'a> {
     // same key.
     pub(crate) fn take_change(&mut self) -> Option<Change<'a>>
         ensures { MatchOption result
-            ((self.new ≡ self.old) × ArePairsNext self.old.changes self.old.pairs)
-            (λ c. (merged self.old ≡ pair_if c.0 (option_copied c.1) ++ merged self.new)
+            ((self.new ≡ self.old)
+            × ArePairsNext W.direction self.old.changes self.old.pairs)
+            (λ c. (merged self.old
+            ≡ in_turn W.direction (pair_if c.0 (option_copied c.1)) (merged self.new))
             × (length self.new.changes < length self.old.changes)) }
     {
         let at = match &self.change {
-            Some(change) => past(self.base, self.at, &change.0)?,
+            Some(change) => past(W::direction(), self.base, self.at, &change.0)?,
             None => return None,
         };
         self.at = at;
@@ -95,25 +102,23 @@ impl<'a> Merge<'a> {
 
     // The base's next pair, before which there is no change.
     pub(crate) fn take_pair(&mut self) -> Option<(&'a [u8], &'a Value<Global>)>
-        requires { ArePairsNext self.old.changes self.old.pairs }
+        requires { ArePairsNext W.direction self.old.changes self.old.pairs }
         ensures { MatchOption result ((merged self.old ≡ []) × (merged self.new ≡ []))
-            (λ p. merged self.old ≡ (p.0.now, p.1.now) ∷ merged self.new) }
+            (λ p. IsNext W.direction (merged self.old) (p.0.now, p.1.now) (merged self.new)) }
     {
         let base = self.base;
-        let at = self.at;
-        if at < base.len() {
-            self.at = at + 1;
-            Some((base.key(at), base.cell(at)))
-        } else {
-            None
-        }
+        let (place, at) = next_place(W::direction(), self.at, base.len())?;
+        self.at = at;
+        Some((base.key(place), base.cell(place)))
     }
 }
 
 // Removes and returns the next pair that is present after the changes.
-pub(crate) fn next_pair<'a>(merge: &mut Merge<'a>) -> Option<(&'a [u8], &'a Value<Global>)>
+pub(crate) fn next_pair<'a, W: Towards>(
+    merge: &mut Merge<'a, W>,
+) -> Option<(&'a [u8], &'a Value<Global>)>
     ensures { MatchOption result ((merged merge.old ≡ []) × (merged merge.new ≡ []))
-        (λ p. merged merge.old ≡ (p.0.now, p.1.now) ∷ merged merge.new) }
+        (λ p. IsNext W.direction (merged merge.old) (p.0.now, p.1.now) (merged merge.new)) }
 {
     loop {
         let Some((key, said)) = merge.take_change() else {
@@ -125,18 +130,32 @@ pub(crate) fn next_pair<'a>(merge: &mut Merge<'a>) -> Option<(&'a [u8], &'a Valu
     }
 }
 
-// The place after `key` among the pairs from place `at` on, or `None` if the first of them is below `key`.
-fn past(base: &Base<Value<Global>, Global>, at: usize, key: &KeyRef<'_>) -> Option<usize>
-    ensures { MatchOption result (first_order (drop at base.now) key.now ≡ Less)
-        (λ next. StartsFrom key.now (drop at base.now)
-        × (drop next base.now ≡ pairs_after key.now (drop at base.now))) }
+// The place after `key` in a base, for an iteration that is at `at`, or `None` if the next pair comes before `key`.
+fn past(
+    direction: Direction,
+    base: &Base<Value<Global>, Global>,
+    at: usize,
+    key: &KeyRef<'_>,
+) -> Option<usize>
+    ensures { MatchOption result (HasUntil direction key.now (left_at direction at base.now))
+        (λ later. (until direction key.now (left_at direction at base.now) ≡ [])
+        × (left_at direction later base.now
+        ≡ after direction key.now (left_at direction at base.now))) }
 {
-    if at >= base.len() {
+    let Some((place, later)) = next_place(direction, at, base.len()) else {
         return Some(at);
-    }
-    match KeyRef::new(base.key(at)).compare(key) {
-        Ordering::Less => None,
-        Ordering::Equal => Some(at + 1),
-        Ordering::Greater => Some(at),
+    };
+    let order = KeyRef::new(base.key(place)).compare(key);
+    match direction {
+        Direction::Up => match order {
+            Ordering::Less => None,
+            Ordering::Equal => Some(later),
+            Ordering::Greater => Some(at),
+        },
+        Direction::Down => match order {
+            Ordering::Less => Some(at),
+            Ordering::Equal => Some(later),
+            Ordering::Greater => None,
+        },
     }
 }

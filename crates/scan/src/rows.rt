@@ -1,54 +1,35 @@
-//! Iterates over the rows of a range of keys.
-ghost use Rattle.std.specs.Prelude.{◌≡◌, ◌∷◌, [], ◌≤◌, true, false, slice_get, Some, MatchOption};
+//! Iterates over the first or the last rows of a range of keys, up to a limit.
+ghost use Rattle.std.specs.Prelude.{◌≡◌, ◌≤◌};
 ghost use Rattle.std.specs.Iterator.{YieldsFirstBy, item_count};
-ghost use Rattle.std.specs.List.{AllByRecursion};
-ghost use Rattle.std.specs.Option.{option_copied, option_map};
-ghost use Rattle.keys.specs.Bytes.{Bytes, Pairs};
-ghost use Rattle.keys.specs.Range.{is_before, rows};
+ghost use Rattle.std.specs.Option.{option_copied};
+ghost use Rattle.keys.specs.Range.{rows};
 ghost use Rattle.mapping.specs.Levels.{levels_of, contents};
 ghost use Rattle.mapping.specs.Proper.{AreLevels, HoldsItsLevels};
 ghost use Rattle.mapping.specs.Tree.{most_levels};
 ghost use Rattle.mapping.specs.TreeInMemory.{AreAllHome, tree_of};
-ghost use Rattle.scan.specs.Leaf.{from};
-ghost use Rattle.scan.specs.Left.{is_inside, pairs_left, rows_left, GoesOn};
-ghost use Rattle.scan.specs.Prefix.{begins_with, with_prefix};
+ghost use Rattle.scan.specs.Back.{rows_back};
+ghost use Rattle.scan.specs.Prefix.{with_prefix};
 
-use crate::leaf::LeafPairs;
-use crate::leaves::Leaves;
-use keys::{Value, compare};
+use crate::bounded::BoundedWalk;
+use crate::direction::{Downward, Upward};
+use crate::edge::{Edge, lower_edge, upper_edge};
 use mapping::Tree;
 use std::alloc::Global;
 use std::marker::Model;
 
-/// An iterator over the rows of a range of keys in key order, as keys and values borrowed from the tree's pages. Does
-/// not allocate, and does not borrow the bounds. Contracts see it as the list of the remaining rows.
+/// An iterator over the first rows of a range of keys in key order, as keys and values borrowed from the tree's pages.
+/// Does not allocate, and does not borrow the bounds. Contracts see it as the list of the remaining rows.
 #[derive(Drop)]
 pub struct Rows<'a> {
-    alloc: Global,
-    leaf: LeafPairs<'a>,
-    leaves: Leaves<'a>,
-    end: End<'a>,
-    // How many rows may still come, if there is a limit.
-    left: Option<u32>,
-}
-
-// Where the rows end. The bytes are borrowed from the tree.
-#[derive(Clone, Copy)]
-enum End<'a> {
-    Open,
-    // Before this key.
-    Before(&'a [u8]),
-    // Before the first key that doesn't begin with these bytes.
-    Beginning(&'a [u8]),
+    walk: BoundedWalk<'a, Upward>,
 }
 
 impl<'a> Model for Rows<'a> {
     ghost use Rattle.keys.specs.Bytes.{Bytes, Pairs};
-    ghost use Rattle.scan.specs.Left.{is_inside, pairs_left, rows_left};
 
     ghost Value = { Pairs Bytes };
 
-    ghost view = { λ r. rows_left r.left (is_inside r.end) (pairs_left r.leaf r.leaves) };
+    ghost view = { λ r. r.walk };
 }
 
 impl<'a> Rows<'a> {
@@ -69,14 +50,9 @@ impl<'a> Rows<'a> {
         ensures { result
             ≡ rows lo.now (option_copied hi.entry) limit (contents (tree_of tree.now)) }
     {
-        let end = end_at(alloc, tree, hi);
-        let (leaf, leaves) = walk_from(alloc, tree, lo);
+        let (start, end) = (lower_edge(lo), upper_edge(hi));
         Rows {
-            alloc,
-            leaf,
-            leaves,
-            end,
-            left: Some(limit),
+            walk: BoundedWalk::new(alloc, tree, &start, &end, Some(limit)),
         }
     }
 
@@ -88,14 +64,9 @@ impl<'a> Rows<'a> {
         requires levels { AreLevels (levels_of (tree_of tree.now)) }
         ensures { result ≡ with_prefix prefix.now (contents (tree_of tree.now)) }
     {
-        let (end, left) = prefix_end(alloc, tree, prefix);
-        let (leaf, leaves) = walk_from(alloc, tree, prefix);
+        let (start, end) = (Edge::Before(prefix), Edge::AfterPrefix(prefix));
         Rows {
-            alloc,
-            leaf,
-            leaves,
-            end,
-            left,
+            walk: BoundedWalk::new(alloc, tree, &start, &end, None),
         }
     }
 }
@@ -108,154 +79,58 @@ impl<'a> Iterator for Rows<'a> {
     ghost remaining = { item_count (λ left. left) };
 
     fn next(&mut self) -> Option<(&'a [u8], &'a [u8])> {
-        let Some(later) = one_less(self.left) else {
-            return None;
-        };
-        match next_pair(self.alloc, &mut self.leaf, &mut self.leaves) {
-            Some((key, value)) if is_before_end(&self.end, key) => {
-                self.left = later;
-                Some((key, value.as_bytes()))
-            }
-            _ => {
-                self.left = Some(0);
-                None
-            }
+        self.walk.next()
+    }
+}
+
+/// An iterator over the last rows of a range of keys from the greatest key down, as keys and values borrowed from the
+/// tree's pages. Does not allocate, and does not borrow the bounds. Contracts see it as the list of the remaining rows.
+#[derive(Drop)]
+pub struct RowsBack<'a> {
+    walk: BoundedWalk<'a, Downward>,
+}
+
+impl<'a> Model for RowsBack<'a> {
+    ghost use Rattle.keys.specs.Bytes.{Bytes, Pairs};
+
+    ghost Value = { Pairs Bytes };
+
+    ghost view = { λ r. r.walk };
+}
+
+impl<'a> RowsBack<'a> {
+    /// Returns the last `limit` pairs of the tree whose keys are at or above `lo` and below `hi` (if given), the
+    /// greatest key first. The tree must be as for `Rows::new`. Costs one descent, and a second one if `lo` is not
+    /// empty.
+    pub fn new(
+        alloc: Global,
+        tree: &'a Tree<Global>,
+        lo: &[u8],
+        hi: Option<&[u8]>,
+        limit: u32,
+    ) -> Self
+        requires home { AreAllHome tree.now }
+        requires height { tree.now.height ≤ most_levels }
+        requires held { HoldsItsLevels (tree_of tree.now) }
+        requires levels { AreLevels (levels_of (tree_of tree.now)) }
+        ensures { result
+            ≡ rows_back lo.now (option_copied hi.entry) limit (contents (tree_of tree.now)) }
+    {
+        let (start, end) = (lower_edge(lo), upper_edge(hi));
+        RowsBack {
+            walk: BoundedWalk::new(alloc, tree, &end, &start, Some(limit)),
         }
     }
 }
 
-// The limit after one more row, or `None` if no more rows may come.
-#[inline]
-#[tactic(auto, using(crate::proofs::RowLemmas::goes_on_none, crate::proofs::RowLemmas::goes_on_some))]
-fn one_less(left: Option<u32>) -> Option<Option<u32>>
-    ensures { MatchOption result (left ≡ Some 0) (λ later. GoesOn left later) }
-{
-    match left {
-        None => Some(None),
-        Some(count) => {
-            if count == 0 {
-                None
-            } else {
-                Some(Some(count - 1))
-            }
-        }
-    }
-}
+impl<'a> Iterator for RowsBack<'a> {
+    type Item = (&'a [u8], &'a [u8]);
 
-#[inline]
-fn is_before_end(end: &End<'_>, key: &[u8]) -> bool
-    ensures { result ≡ is_inside end.now key.now }
-{
-    match end {
-        End::Open => true,
-        End::Before(end) => compare(key, end).is_lt(),
-        End::Beginning(prefix) => key.starts_with(prefix),
-    }
-}
+    ghost next_gives = { YieldsFirstBy (λ item. (item.0.now, item.1.now)) (λ left. left) };
 
-// The end of the rows below `hi`: the tree's first key at or above `hi`, which outlives the bounds.
-fn end_at<'a>(alloc: Global, tree: &'a Tree<Global>, hi: Option<&[u8]>) -> End<'a>
-    requires home { AreAllHome tree.now }
-    requires height { tree.now.height ≤ most_levels }
-    requires held { HoldsItsLevels (tree_of tree.now) }
-    requires levels { AreLevels (levels_of (tree_of tree.now)) }
-    ensures { AllByRecursion (λ e. is_inside result e.0 ≡ is_before (option_copied hi.entry) e.0)
-        (contents (tree_of tree.now)) }
-{
-    match hi {
-        Some(hi) => match first_from(alloc, tree, hi) {
-            Some((key, _)) => End::Before(key),
-            None => End::Open,
-        },
-        None => End::Open,
-    }
-}
+    ghost remaining = { item_count (λ left. left) };
 
-// The end of the rows with this prefix, and their limit, which is 0 if no key begins with it.
-fn prefix_end<'a>(alloc: Global, tree: &'a Tree<Global>, prefix: &[u8]) -> (End<'a>, Option<u32>)
-    requires home { AreAllHome tree.now }
-    requires height { tree.now.height ≤ most_levels }
-    requires held { HoldsItsLevels (tree_of tree.now) }
-    requires levels { AreLevels (levels_of (tree_of tree.now)) }
-    ensures { (all : Pairs Bytes) → all ≡ from prefix.now (contents (tree_of tree.now)) →
-        rows_left result.1 (is_inside result.0) all
-        ≡ with_prefix prefix.now (contents (tree_of tree.now)) }
-{
-    match prefix_of_first(alloc, tree, prefix) {
-        Some(own) => (End::Beginning(own), None),
-        None => (End::Open, Some(0)),
-    }
-}
-
-// The prefix as a part of the first key that begins with it, or `None` if no key does.
-fn prefix_of_first<'a>(alloc: Global, tree: &'a Tree<Global>, prefix: &[u8]) -> Option<&'a [u8]>
-    requires home { AreAllHome tree.now }
-    requires height { tree.now.height ≤ most_levels }
-    requires held { HoldsItsLevels (tree_of tree.now) }
-    requires levels { AreLevels (levels_of (tree_of tree.now)) }
-    ensures { MatchOption result (with_prefix prefix.now (contents (tree_of tree.now)) ≡ [])
-        (λ own. own.now ≡ prefix.now) }
-{
-    let (key, _) = first_from(alloc, tree, prefix)?;
-    beginning(key, prefix)
-}
-
-// The prefix as a part of `key`, or `None` if `key` doesn't begin with it.
-fn beginning<'a>(key: &'a [u8], prefix: &[u8]) -> Option<&'a [u8]>
-    ensures { MatchOption result (begins_with prefix.now key.now ≡ false)
-        (λ own. own.now ≡ prefix.now) }
-{
-    if key.starts_with(prefix) {
-        Some(&key[..prefix.len()])
-    } else {
-        None
-    }
-}
-
-pub(crate) fn first_from<'a>(
-    alloc: Global,
-    tree: &'a Tree<Global>,
-    key: &[u8],
-) -> Option<(&'a [u8], &'a Value<Global>)>
-    requires home { AreAllHome tree.now }
-    requires height { tree.now.height ≤ most_levels }
-    requires held { HoldsItsLevels (tree_of tree.now) }
-    requires levels { AreLevels (levels_of (tree_of tree.now)) }
-    ensures { option_map (λ e. (e.0.now, e.1.now)) result
-        ≡ slice_get (from key.now (contents (tree_of tree.now))) 0 }
-{
-    let (mut leaf, mut leaves) = walk_from(alloc, tree, key);
-    next_pair(alloc, &mut leaf, &mut leaves)
-}
-
-fn walk_from<'a>(alloc: Global, tree: &'a Tree<Global>, key: &[u8]) -> (LeafPairs<'a>, Leaves<'a>)
-    requires home { AreAllHome tree.now }
-    requires height { tree.now.height ≤ most_levels }
-    requires held { HoldsItsLevels (tree_of tree.now) }
-    requires levels { AreLevels (levels_of (tree_of tree.now)) }
-    ensures { pairs_left result.0 result.1 ≡ from key.now (contents (tree_of tree.now)) }
-{
-    let (first, leaves) = Leaves::new(alloc, tree, key);
-    (LeafPairs::new(alloc, first.1.whole(), key), leaves)
-}
-
-// The next pair of the leaf, or else of the leaves after it.
-fn next_pair<'a>(
-    alloc: Global,
-    leaf: &mut LeafPairs<'a>,
-    leaves: &mut Leaves<'a>,
-) -> Option<(&'a [u8], &'a Value<Global>)>
-    ensures { MatchOption result (pairs_left leaf.old leaves.old ≡ [])
-        (λ pair. pairs_left leaf.old leaves.old
-        ≡ (pair.0.now, pair.1.now) ∷ pairs_left leaf.new leaves.new) }
-{
-    loop {
-        if let Some(pair) = leaf.next() {
-            return Some(pair);
-        }
-        match leaves.next() {
-            Some((_, chain)) => leaf.restart(alloc, chain.whole()),
-            None => return None,
-        }
+    fn next(&mut self) -> Option<(&'a [u8], &'a [u8])> {
+        self.walk.next()
     }
 }

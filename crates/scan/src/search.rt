@@ -1,64 +1,61 @@
-//! Iterates over a leaf with many runs: searches each next key.
-ghost use Rattle.std.specs.Prelude.{◌≡◌};
+//! Iterates over a leaf with many runs in either direction: searches each next key.
+ghost use Rattle.std.specs.Prelude.{◌≡◌, [], not, MatchOption};
+ghost use Rattle.std.specs.List.{filter};
 ghost use Rattle.std.specs.Option.{option_map};
-ghost use Rattle.std.specs.Iterator.{YieldsFirstBy, item_count};
-ghost use Rattle.delta_chain.specs.Layers.{entries_of};
-ghost use Rattle.scan.specs.Leaf.{from, pairs_after, left_after};
+ghost use Rattle.delta_chain.specs.Layers.{entries_of, IsInOrder};
+ghost use Rattle.scan.specs.Direction.{IsNext, precedes};
+ghost use Rattle.scan.specs.Edge.{beyond, is_under};
+ghost use Rattle.scan.specs.Search.{left_with, NamesNone, AreNamedFrom, IsPassed};
 
-use delta_chain::Chain;
-use keys::Value;
+use crate::changes::comes_before;
+use crate::direction::{Direction, Towards};
+use crate::edge::{Edge, count_under};
+use crate::run_place::{RunPlace, next_place};
+use delta_chain::{Chain, ChainRef};
+use keys::{KeyRef, Value};
 use page_search::{Probes, above, find, floor};
 use std::alloc::Global;
-use std::marker::Model;
+use std::marker::{Model, PhantomData};
 
-/// An iterator over a leaf that searches for each next key. Contracts see it as the list of the remaining pairs.
+/// An iteration over a leaf that searches for each next key. Contracts see it as the list of the remaining pairs, in key
+/// order.
 #[derive(Drop)]
-pub(crate) struct Search<'a> {
+pub(crate) struct Search<'a, W: Towards> {
     chain: &'a Chain<Value<Global>, Global>,
     next: Option<(&'a [u8], &'a Value<Global>)>,
+    towards: PhantomData<W>,
 }
 
-impl<'a> Model for Search<'a> {
+impl<'a, W: Towards> Model for Search<'a, W> {
     ghost use Rattle.std.specs.Option.{option_map};
     ghost use Rattle.keys.specs.Bytes.{Bytes, Pairs};
     ghost use Rattle.delta_chain.specs.Layers.{entries_of};
-    ghost use Rattle.scan.specs.Leaf.{left_after};
+    ghost use Rattle.scan.specs.Search.{left_with};
 
     ghost Value = { Pairs Bytes };
 
-    ghost view = { λ l. left_after
-        (option_map (λ e. (e.0.now, e.1.now)) l.next) (entries_of l.chain.now) };
+    ghost view = { λ s. left_with W.direction
+        (option_map (λ e. (e.0.now, e.1.now)) s.next) (entries_of s.chain.now) };
 }
 
-impl<'a> Search<'a> {
-    pub(crate) fn new(chain: &'a Chain<Value<Global>, Global>, key: &[u8]) -> Self
-        ensures { result ≡ from key.now (entries_of chain.now) }
+impl<'a, W: Towards> Search<'a, W> {
+    pub(crate) fn new(chain: &'a Chain<Value<Global>, Global>, edge: &Edge<'_>) -> Self
+        ensures { result ≡ beyond W.direction (is_under edge.now) (entries_of chain.now) }
     {
-        let _in_order = chain.depth();
-        match find(chain, key, &mut Probes::new()) {
-            Some(_) => Search {
-                chain,
-                next: floor(chain, key, &mut Probes::new()),
-            },
-            None => Search {
-                chain,
-                next: next_after(chain, key),
-            },
+        Search {
+            chain,
+            next: next_from::<W>(chain, edge),
+            towards: PhantomData,
         }
     }
-}
 
-impl<'a> Iterator for Search<'a> {
-    type Item = (&'a [u8], &'a Value<Global>);
-
-    ghost next_gives = { YieldsFirstBy (λ item. (item.0.now, item.1.now)) (λ left. left) };
-
-    ghost remaining = { item_count (λ left. left) };
-
-    fn next(&mut self) -> Option<(&'a [u8], &'a Value<Global>)> {
+    pub(crate) fn next(&mut self) -> Option<(&'a [u8], &'a Value<Global>)>
+        ensures { MatchOption result ((self.old ≡ []) × (self.new ≡ []))
+            (λ p. IsNext W.direction self.old (p.0.now, p.1.now) self.new) }
+    {
         match self.next {
             Some((key, value)) => {
-                self.next = next_after(self.chain, key);
+                self.next = next_from::<W>(self.chain, &past_key(W::direction(), key));
                 Some((key, value))
             }
             None => None,
@@ -66,13 +63,73 @@ impl<'a> Iterator for Search<'a> {
     }
 }
 
-fn next_after<'a>(
+// The edge from which an iteration continues after `key`.
+#[inline]
+fn past_key<'a>(direction: Direction, key: &'a [u8]) -> Edge<'a>
+    ensures { IsPassed direction key.now (is_under result) }
+{
+    match direction {
+        Direction::Up => Edge::After(key),
+        Direction::Down => Edge::Before(key),
+    }
+}
+
+// The next pair beyond the edge. No pair lies between the edge and the next key that a list contains.
+fn next_from<'a, W: Towards>(
+    chain: &'a Chain<Value<Global>, Global>,
+    edge: &Edge<'_>,
+) -> Option<(&'a [u8], &'a Value<Global>)>
+    ensures { left_with W.direction (option_map (λ e. (e.0.now, e.1.now)) result)
+        (entries_of chain.now)
+        ≡ beyond W.direction (is_under edge.now) (entries_of chain.now) }
+{
+    let _in_order = chain.depth();
+    let key = next_named::<W>(&chain.lent(), edge)?;
+    nearest(W::direction(), chain, key.as_bytes())
+}
+
+// The pair at `key`, or else the next one.
+fn nearest<'a>(
+    direction: Direction,
     chain: &'a Chain<Value<Global>, Global>,
     key: &[u8],
 ) -> Option<(&'a [u8], &'a Value<Global>)>
-    ensures { left_after (option_map (λ e. (e.0.now, e.1.now)) result) (entries_of chain.now)
-        ≡ pairs_after key.now (entries_of chain.now) }
+    requires { IsInOrder chain.now }
+    ensures { left_with direction (option_map (λ e. (e.0.now, e.1.now)) result)
+        (entries_of chain.now)
+        ≡ filter (λ e. not (precedes direction e.0 key.now)) (entries_of chain.now) }
 {
-    let _in_order = chain.depth();
-    above(chain, key, &mut Probes::new())
+    match direction {
+        Direction::Down => floor(chain, key, &mut Probes::new()),
+        Direction::Up => match find(chain, key, &mut Probes::new()) {
+            Some(_) => floor(chain, key, &mut Probes::new()),
+            None => above(chain, key, &mut Probes::new()),
+        },
+    }
+}
+
+// The next key beyond the edge that the runs or the base contain.
+fn next_named<'a, W: Towards>(
+    lists: &ChainRef<'a, Value<Global>, Global>,
+    edge: &Edge<'_>,
+) -> Option<KeyRef<'a>>
+    requires { IsInOrder lists.now }
+    ensures { MatchOption result (NamesNone W.direction (is_under edge.now) lists.now)
+        (λ key. AreNamedFrom W.direction key (is_under edge.now) lists.now) }
+{
+    let Some((run, below)) = lists.newest() else {
+        let base = lists.base();
+        let (place, _later) = next_place(W::direction(), count_under(base, edge), base.len())?;
+        return Some(KeyRef::new(base.key(place)));
+    };
+    let under = next_named::<W>(&below, edge);
+    let own = RunPlace::<W>::new(run, edge);
+    let Some((key, _)) = own.next() else {
+        return under;
+    };
+    let direction = W::direction();
+    match under {
+        Some(other) if comes_before(direction, &other, &key) => Some(other),
+        _ => Some(key),
+    }
 }

@@ -18,8 +18,8 @@ both_true : (a b : Bool) → (a && b) ≡ true → (a ≡ true) × (b ≡ true)
 both_true true b h = (refl, h)
 both_true false b h = absurd (cc)
 
-pub new-leaves-requires-clause-known : goal.new-leaves-requires-clause-known
-new-leaves-requires-clause-known c = root_is_there c.args.tree.now c.requires.held c.requires.levels
+pub new-leaves-requires : goal.new-leaves-requires
+new-leaves-requires c = (omega arith, (c.requires.home, (c.requires.height, root_is_there c.args.tree.now c.requires.held c.requires.levels)))
 
 pub loop-next-init : goal.loop-next-init
 loop-next-init c = record {
@@ -35,7 +35,7 @@ returns-then-certain-limit c = λ gone m is.
     let inside = both_true (is_before (option_copied c.args.hi) c.in-Some.next.0.now) (is_below c.args.lo.now c.in-Some.next.0.now) (sym c.is_inside.ensures ∙ c.if-not-is_inside.false) in
     let above = inside.1 in
     enough_on gone (levels_of (tree_of c.args.tree.now)).level c.args.lo.now (leaf_with c.loop-next.leaf.0.now (seen c.loop-next.leaf.1.now)) (leaf_with c.in-Some.next.0.now (seen c.in-Some.next.1.now)) c.loop-next.leaves c.next.new.self
-    c.loop-next.invariant.passing c.in-Some.ensures.steps (option_copied c.args.hi) c.args.limit c.loop-next.certain c.certain_pairs-more.result c.saturating_add-certain.result c.requires.levels.tiled (c.loop-next.invariant.certain gone is)
+    c.loop-next.invariant.passing c.in-Some.ensures (option_copied c.args.hi) c.args.limit c.loop-next.certain c.certain_pairs-more.result c.saturating_add-certain.result c.requires.levels.tiled (c.loop-next.invariant.certain gone is)
     (λ a b lack below part. c.certain_pairs-more.ensures gone c.in-Some.next.0.now a b (c.loop-next.invariant.before gone is) (c.below-here.ensures gone is) lack below above (late_part c.loop-next.leaf.1.now c.whole.result.now _ c.whole.ensures part))
     (omega (arith, sum)) above inside.0 (omega (arith, many)) m
 
@@ -47,11 +47,11 @@ loop-next-preserved c =
     record {
       passing =
           passing_on ([], []) (levels_of (tree_of c.args.tree.now)).level c.args.lo.now (leaf_with c.loop-next.leaf.0.now (seen c.loop-next.leaf.1.now)) (leaf_with c.in-Some.next.0.now (seen c.in-Some.next.1.now)) c.loop-next.leaves c.next.new.self
-          c.loop-next.invariant.passing c.in-Some.ensures.steps;
+          c.loop-next.invariant.passing c.in-Some.ensures;
       before = λ gone is.
           subst (λ (k : List ℕ). IsTakenBelow gone k c.below-here.result) (sym (later_low c.in-Some.next.0.now c.args.lo.now (not_both_below c.args.lo.now c.in-Some.next.0.now above))) (c.below-here.ensures gone is);
       certain = λ gone is.
           certain_on gone (levels_of (tree_of c.args.tree.now)).level c.args.lo.now (leaf_with c.loop-next.leaf.0.now (seen c.loop-next.leaf.1.now)) (leaf_with c.in-Some.next.0.now (seen c.in-Some.next.1.now)) c.loop-next.leaves c.next.new.self
-          c.loop-next.invariant.passing c.in-Some.ensures.steps c.loop-next.certain c.certain_pairs-more.result c.saturating_add-certain.result c.requires.levels.tiled (c.loop-next.invariant.certain gone is)
+          c.loop-next.invariant.passing c.in-Some.ensures c.loop-next.certain c.certain_pairs-more.result c.saturating_add-certain.result c.requires.levels.tiled (c.loop-next.invariant.certain gone is)
           (λ a b lack below part. c.certain_pairs-more.ensures gone c.in-Some.next.0.now a b (c.loop-next.invariant.before gone is) (c.below-here.ensures gone is) lack below above (late_part c.loop-next.leaf.1.now c.whole.result.now _ c.whole.ensures part)) (omega (arith, sum));
     }

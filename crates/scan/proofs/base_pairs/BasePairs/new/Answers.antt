@@ -1,5 +1,6 @@
-use Rattle.scan.proofs.MergeSteps.{place_of}
+use Rattle.scan.specs.Edge.{is_under}
+use Rattle.scan.proofs.PlaceLemmas.{begins_at_edge, edge_passes_lower}
 use Rattle.scan.proofs.base_pairs.BasePairs.new.Goals as goal
 
 pub returns : goal.returns
-returns c = place_of c.args.key.now c.args.base.now c.place_from-at.result c.place_from-at.ensures.rising c.place_from-at.ensures.place
+returns g c = begins_at_edge (is_under c.args.edge.now) (edge_passes_lower c.args.edge.now) g.W.Towards.direction c.args.base.now c.count_under.result c.count_under.ensures.rising c.count_under.ensures.count

@@ -1,8 +1,17 @@
 use Rattle.std.proofs.Common.{sym, subst}
 use Rattle.scan.specs.Merge.{ArePairsNext}
-use Rattle.scan.proofs.MergeSteps.{pair_taken}
+use Rattle.scan.proofs.MergeLemmas.{pair_taken, nothing_taken}
+use Rattle.scan.proofs.PlaceLemmas.{at_next_place, at_end, rising_left}
 use Rattle.scan.proofs.merge.Merge.take_pair.Goals as goal
 
-pub returns-then-at-len : goal.returns-then-at-len
-returns-then-at-len c =
-    rw (← c.self.view_is) (pair_taken c.self.inside.base.now c.self.inside.at _ _ _ c.self.invariant.changes c.key.ensures c.cell.ensures (subst (λ m. ArePairsNext m.changes m.pairs) (sym c.self.view_is) c.requires))
+pub returns-in_err-place : goal.returns-in_err-place
+returns-in_err-place g c =
+    let none = nothing_taken g.W.Towards.direction _ _ (at_end g.W.Towards.direction c.self.inside.base.now c.self.inside.at (rw (c.direction.ensures, c.len.ensures.count) at c.in_err-place.ensures)) (subst (λ m. ArePairsNext g.W.Towards.direction m.changes m.pairs) (sym c.self.view_is) c.requires) in
+    rw (c.from_residual.ensures, ← c.self.view_is) (none, none)
+
+pub returns : goal.returns
+returns g c =
+    rw (← c.self.view_is)
+    (pair_taken g.W.Towards.direction _ _ _ _ _ (rising_left g.W.Towards.direction c.self.inside.at c.self.inside.base.now c.self.invariant.base) c.self.invariant.changes
+    (at_next_place g.W.Towards.direction c.self.inside.base.now c.self.inside.at c.in_ok-place.place c.in_ok-place.at _ _ (rw (c.direction.ensures, c.len.ensures.count) at c.in_ok-place.ensures) c.key.ensures c.cell.ensures)
+    (subst (λ m. ArePairsNext g.W.Towards.direction m.changes m.pairs) (sym c.self.view_is) c.requires))

@@ -1,5 +1,10 @@
-use Rattle.scan.proofs.RowLemmas.{rows_at_start}
+use Rattle.std.proofs.Common.{ap, ◌∙◌}
+use Rattle.std.specs.Prelude.{take}
+use Rattle.std.specs.Option.{option_copied}
+use Rattle.mapping.specs.Levels.{contents}
+use Rattle.mapping.specs.TreeInMemory.{tree_of}
+use Rattle.scan.proofs.RangeLemmas.{between_in_range}
 use Rattle.scan.proofs.rows.Rows.new.Goals as goal
 
 pub returns : goal.returns
-returns c = rows_at_start c.args.tree.now c.requires.held c.requires.levels c.args.lo.now _ c.args.limit _ _ c.end_at-end.ensures c.walk_from-leaf.ensures
+returns c = c.new.ensures ∙ ap (λ es. take c.args.limit es) (between_in_range _ _ c.args.lo.now (option_copied c.args.hi) (contents (tree_of c.args.tree.now)) c.lower_edge-start.ensures c.upper_edge-end.ensures)
