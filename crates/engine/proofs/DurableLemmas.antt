@@ -1,5 +1,5 @@
 -- A batch and its flush as one call: from its steps to what the call promises.
-use Rattle.std.specs.Prelude.{◌≡◌, ◌≢◌, ◌⊎◌, ℕ, ◌≤◌, length, Bool, IsTrue, true, false, List, Option, Some, None, Result, Ok, Err, IfErr, OnOk, MatchOption}
+use Rattle.std.specs.Prelude.{◌≡◌, ◌≢◌, ◌⊎◌, ℕ, ◌≤◌, length, Bool, IsTrue, false, List, Option, Some, None, Result, Ok, Err, IfErr, OnOk, MatchOption}
 use Rattle.std.proofs.Common.{refl, sym, ap, ◌∙◌, subst, inl, inr}
 use Rattle.std.specs.declared.alloc.Global.{Global}
 use Rattle.keys.specs.Bytes.{Bytes, Pairs}
@@ -9,13 +9,12 @@ use Rattle.keys.specs.declared.command.Command.{Command}
 use Rattle.keys.specs.declared.command.Reply.{Reply}
 use Rattle.keys.specs.declared.fault.Fault.{Fault}
 use Rattle.keys.specs.declared.fault.Fault.TheVariants.{BadCrew, Device, Failed, NoMemory}
-use Rattle.keys.specs.declared.settings.Settings.{Settings}
 use Rattle.mapping.specs.Levels.{contents}
 use Rattle.mapping.specs.Proper.{IsProper}
 use Rattle.flush_log.specs.Disk.{View}
 use Rattle.engine.specs.Batch.{IsLaterFault}
 use Rattle.engine.specs.Cleaning.{IsStart}
-use Rattle.engine.specs.Durable.{IsExecuted, IsFlushed, IsGivenUp, IsNotDurable, IsNotUndone, IsRefusedBatch, IsUndoTried, IsUnflushed, IsUnwritten, contents_after}
+use Rattle.engine.specs.Durable.{IsExecuted, IsFlushed, IsGivenUp, IsNotUndone, IsRefusedBatch, IsUndoTried, IsUnflushed, IsUnwritten, contents_after}
 use Rattle.engine.specs.OneStep.{IsBatch}
 use Rattle.engine.specs.Refusal.{longest_batch, refusal}
 use Rattle.engine.specs.State.{State}

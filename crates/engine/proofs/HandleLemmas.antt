@@ -1,12 +1,11 @@
 -- The calls of a handle: what one that executes one command says, by the batch that it makes, and the reply that a token finds.
-use Rattle.std.specs.Prelude.{◌≡◌, ◌+◌, ◌-◌, ◌^◌, ◌≤◌, ℕ, zero, suc, ⊤, Bool, true, false, not, is_some, if◌then◌else◌, List, [], ◌∷◌, length, take, drop, reverse, slice_get, Option, Some, None, Result, Ok, Err, MatchOption}
+use Rattle.std.specs.Prelude.{◌≡◌, ◌+◌, ◌-◌, ◌^◌, ◌≤◌, ℕ, zero, suc, ⊤, Bool, true, false, not, is_some, if◌then◌else◌, List, [], ◌∷◌, length, take, drop, slice_get, Option, Some, None, Result, Ok, Err, MatchOption}
 use Rattle.std.proofs.Common.{refl, sym, ap, ◌∙◌, subst, inl, inr}
-use Rattle.std.specs.Option.{option_map}
 use Rattle.std.specs.declared.alloc.Global.{Global}
 use Rattle.keys.specs.Bytes.{Bytes, Pairs}
 use Rattle.keys.specs.OrderedMap.{value_at, with_pair, without}
 use Rattle.keys.specs.Order.{IsRising}
-use Rattle.keys.specs.Range.{in_range, out_of_range, rows}
+use Rattle.keys.specs.Range.{in_range, out_of_range}
 use Rattle.keys.specs.Step.{reply_to, map_after, replies_to, map_after_all}
 use Rattle.keys.specs.declared.command.Command.{Command}
 use Rattle.keys.specs.declared.command.Command.TheVariants.{Put, Add, Del, Wipe}
@@ -16,13 +15,15 @@ use Rattle.keys.specs.declared.fault.Fault.{Fault}
 use Rattle.keys.proofs.MapLemmas.{order_itself}
 use Rattle.flush_log.specs.Disk.{View}
 use Rattle.mapping.specs.Levels.{contents}
-use Rattle.scan.specs.Back.{rows_back}
 use Rattle.engine.specs.Batch.{IsLaterFault}
-use Rattle.engine.specs.Handle.{IsCall, pairs_after_all}
+use Rattle.engine.specs.Durable.{contents_after}
+use Rattle.engine.specs.Handle.{IsCall, pairs_after_all, pairs_left}
 use Rattle.engine.specs.OneStep.{IsBatch}
 use Rattle.engine.specs.Refusal.{refusal}
 use Rattle.engine.specs.State.{State}
 use Rattle.engine.specs.Tokens.{is_new, was_deleted, wiped_count}
+use Rattle.engine.specs.declared.store.durable.Unwritten.{Unwritten}
+use Rattle.engine.specs.declared.store.durable.Unwritten.TheVariants.{Undone, InDoubt}
 use Rattle.engine.proofs.NumbersLemmas.{all_within}
 use Rattle.engine.proofs.PairCounts.{pairs_after-replies}
 use Rattle.engine.proofs.RefusedCalls.{refused_as}
@@ -189,21 +190,6 @@ one_refused {X = X} view old new c cs said fault is batch =
 
 -- ---- the first pair
 
-take_first : {X : Type 0} (xs : List X) → slice_get (take 1 xs) 0 ≡ slice_get xs 0
-take_first [] = refl
-take_first (x ∷ xs) = refl
-
-pub first_row : (m : Pairs Bytes) → slice_get (rows [] None 1 m) 0 ≡ slice_get m 0
-first_row m = take_first (in_range [] None m) ∙ ap (λ (es : Pairs Bytes). slice_get es 0) (all_within m)
-
-pub last_row : (m : Pairs Bytes) → slice_get (rows_back [] None 1 m) 0 ≡ slice_get (reverse m) 0
-last_row m = take_first (reverse (in_range [] None m)) ∙ ap (λ (es : Pairs Bytes). slice_get (reverse es) 0) (all_within m)
-
--- the row that comes next
-pub next_row : {I : Type 0} (view : I → Bytes × Bytes) (o : Option I) (left later : Pairs Bytes) → MatchOption o ((left ≡ []) × (later ≡ [])) (λ x. left ≡ view x ∷ later) → option_map view o ≡ slice_get left 0
-next_row view None left later h = ap (λ (es : Pairs Bytes). slice_get es 0) (sym h.0)
-next_row view (Some x) left later h = ap (λ (es : Pairs Bytes). slice_get es 0) (sym h)
-
 without_first : (m : Pairs Bytes) (e : Bytes × Bytes) → slice_get m 0 ≡ Some e → without m e.0 ≡ drop 1 m
 without_first [] e h = absurd (cc)
 without_first (x ∷ m) e h = (let same : x ≡ e = cc in rw (same, order_itself e.0) refl)
@@ -240,6 +226,12 @@ pub counted : (m after : Pairs Bytes) (cs : List (Command Global)) (rs : List (R
     → count ≡ pairs_after_all pairs rs → count ≡ length after
 counted m after cs rs pairs count rising fit before replies map is =
     is ∙ ap (λ (n : ℕ). pairs_after_all n rs) before ∙ ap (λ (l : List (Reply Global)). pairs_after_all (length m) l) replies ∙ pairs_after-replies m cs rising fit ∙ ap length (sym map)
+
+-- after a batch that is not durable, which had left the map `after`
+pub counted_left : (m after now : Pairs Bytes) (cs : List (Command Global)) (unwritten : Unwritten) (before pairs count : ℕ) → before ≡ length m → pairs ≡ length after → after ≡ map_after_all m cs → now ≡ contents_after m cs unwritten
+    → count ≡ pairs_left before pairs unwritten → count ≡ length now
+counted_left m after now cs (Undone fault) before pairs count was counted map left is = is ∙ was ∙ ap length (sym left)
+counted_left m after now cs (InDoubt fault) before pairs count was counted map left is = is ∙ counted ∙ ap length (map ∙ sym left)
 
 -- ---- tokens
 

@@ -4,7 +4,9 @@ mod AsBefore
 pub mod BatchDone
 mod BatchInStep
 mod BatchLeaves
+mod BatchRows
 mod BlankAnswers
+mod BoundsLemmas
 mod ClaimCleaned
 mod ClaimCreated
 mod ClaimFlushed

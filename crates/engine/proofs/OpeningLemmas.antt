@@ -1,15 +1,15 @@
 -- Lemmas on opening the store in a file by options.
-use Rattle.std.specs.Prelude.{⊤, MatchOption, MatchResult, IfOk, IfErr}
-use Rattle.std.proofs.Common.{◌≡◌, ◌⊎◌, inl, inr, subst, [], Option, None, Some, Result, Ok, Err}
+use Rattle.std.specs.Prelude.{⊤, if◌then◌else◌, MatchOption, MatchResult, IfOk, IfErr}
+use Rattle.std.proofs.Common.{◌≡◌, ◌⊎◌, Bool, true, false, inl, inr, refl, sym, subst, [], Option, None, Some, Result, Ok, Err}
 use Rattle.std.specs.declared.io.Error.{Error}
 use Rattle.keys.specs.Bytes.{Bytes}
 use Rattle.keys.specs.declared.fault.Fault.{Fault}
-use Rattle.keys.specs.declared.fault.Fault.TheVariants.{BadSettings}
+use Rattle.keys.specs.declared.fault.Fault.TheVariants.{BadCrew, BadSettings, NoMemory}
 use Rattle.keys.specs.declared.settings.Field.{Field}
 use Rattle.keys.specs.declared.settings.Settings.{Settings}
 use Rattle.recovery.specs.StoreOfDisk.{store_of_disk}
 use Rattle.engine.specs.FileStore.{IsFaultOfFile, IsNewStore}
-use Rattle.engine.specs.Opening.{HasOpenFault, IsFaultOfStore, IsRefusedBy}
+use Rattle.engine.specs.Opening.{HasOpenFault, IsFaultOfStore, IsOpenedBy, IsRefusedBy}
 use Rattle.engine.specs.State.{State}
 use Rattle.engine.specs.declared.file_store.OpenFault.{OpenFault}
 use Rattle.engine.specs.declared.file_store.OpenFault.TheVariants as open_fault
@@ -48,6 +48,59 @@ pub of_created : {D : Type 0} (s : Settings) (r : Result (State D) OpenFault) �
     → MatchResult r (IsNewStore s) (IsFaultOfFile [])
 of_created s (Ok x) made refused = made
 of_created s (Err e) made refused = refused []
+
+-- ---- the handle of the store that was opened
+
+-- a store was opened, so the crew is in range
+pub in_range_if_opened : {X : Type 0} (able : Bool) (opened : Result X OpenFault) (x : X) → opened ≡ Ok x → (able ≡ false → opened ≡ Err (open_fault.Store BadCrew)) → able ≡ true
+in_range_if_opened true opened x is bad = refl
+in_range_if_opened false opened x is bad = (let never = bad refl in absurd (cc))
+
+pub opened_has : {X : Type 0} (opened : Result X OpenFault) (x : X) (P : X → Type 0) → opened ≡ Ok x → IfOk opened P → P x
+opened_has {X = X} opened x P is has = subst (λ (r : Result X OpenFault). IfOk r P) is has
+
+-- the pairs of a store were not counted, and its crew is in range
+pub by_crew : (able : Bool) (fault : Fault) → able ≡ true → fault ≡ (if able then NoMemory else BadCrew) → fault ≡ NoMemory
+by_crew true fault able is = is
+by_crew false fault able is = absurd (cc)
+
+-- out of memory, for any file
+no_memory : (access : Access) (file : Bytes) → IsRefusedBy access file (open_fault.Store NoMemory)
+no_memory ReadOnly file = inl refl
+no_memory Existing file = inl refl
+no_memory (Create IfMissing settings) file = inl refl
+no_memory (Create New settings) file = inl refl
+
+-- What a call that opens promises of its result, if the crew is in range.
+abbrev IsOpening : {D : Type 0} → Option Field → Access → Result (State D) OpenFault → Type 0
+IsOpening o access opened = MatchOption o ((file : Bytes) × MatchResult opened (IsOpenedBy access file) (IsRefusedBy access file)) (λ field. opened ≡ Err (open_fault.Store (BadSettings field)))
+
+abbrev opened_as : {D : Type 0} → State D → Result (State D) OpenFault
+opened_as x = Ok x
+
+abbrev refused_as : (D : Type 0) → OpenFault → Result (State D) OpenFault
+refused_as D fault = Err fault
+
+not_opened : {D : Type 0} (x : State D) (fault : OpenFault) → opened_as x ≡ refused_as D fault → ⊥
+not_opened x fault e = cc
+
+uncounted_by : {D : Type 0} (o : Option Field) (access : Access) (x : State D) → IsOpening o access (opened_as x) → IsOpening o access (refused_as D (open_fault.Store NoMemory))
+uncounted_by None access x (file, was) = (file, no_memory access file)
+uncounted_by (Some field) access x was = absurd (not_opened x (open_fault.Store (BadSettings field)) was)
+
+module _ {D : Type 0} (o : Option Field) (access : Access) (opened : Result (State D) OpenFault) (was : IsOpening o access opened) where
+  -- the store was not opened
+  pub passed_on : (fault : OpenFault) → opened ≡ Err fault → IsOpening o access (refused_as D fault)
+  passed_on fault is = subst (IsOpening o access) is was
+
+  module _ (x : State D) (is : opened ≡ Ok x) where
+    -- the pairs were not counted
+    pub uncounted : (fault : Fault) → fault ≡ NoMemory → IsOpening o access (refused_as D (open_fault.Store fault))
+    uncounted fault same = subst (λ (f : Fault). IsOpening o access (refused_as D (open_fault.Store f))) (sym same) (uncounted_by o access x (subst (IsOpening o access) is was))
+
+    -- they were counted
+    pub same_store : (y : State D) → y ≡ x → IsOpening o access (opened_as y)
+    same_store y same = subst (λ (z : State D). IsOpening o access (opened_as z)) (sym same) (subst (IsOpening o access) is was)
 
 -- ---- the error with the path
 

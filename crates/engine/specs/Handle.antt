@@ -12,6 +12,8 @@ use Rattle.flush_log.specs.Disk.{View}
 use Rattle.mapping.specs.Levels.{contents}
 use Rattle.engine.specs.OneStep.{IsBatch}
 use Rattle.engine.specs.State.{State}
+use Rattle.engine.specs.declared.store.durable.Unwritten.{Unwritten}
+use Rattle.engine.specs.declared.store.durable.Unwritten.TheVariants.{Undone, InDoubt}
 
 -- the invariant of every handle: its crew is in range, and its count is the number of its store's pairs
 pub record IsHandle {D : Type 0} (x : State D) (crew : Crew) (pairs : ℕ) : Type 0 where
@@ -42,3 +44,8 @@ pairs_after n _ = n
 abbrev pub pairs_after_all : ℕ → List (Reply Global) → ℕ
 pairs_after_all n [] = n
 pairs_after_all n (r ∷ rs) = pairs_after_all (pairs_after n r) rs
+
+-- the number of pairs after a batch that is not durable: that before the batch, or that which the batch left
+abbrev pub pairs_left : ℕ → ℕ → Unwritten → ℕ
+pairs_left before after (Undone fault) = before
+pairs_left before after (InDoubt fault) = after

@@ -1,5 +1,6 @@
 pub mod Batch
 pub mod Batches
+pub mod Bounds
 pub mod Calls
 pub mod Claim
 pub mod ClaimFlush

@@ -1,8 +1,9 @@
 -- A batch that is built command by command, and the replies that its tokens find.
-use Rattle.std.specs.Prelude.{◌≡◌, ◌++◌, ℕ, Bool, true, false, List, [], ◌∷◌, length, Option, Some, None}
+use Rattle.std.specs.Prelude.{◌≡◌, ◌++◌, ◌+◌, ℕ, Bool, true, false, List, [], ◌∷◌, length, Option, Some, None}
 use Rattle.std.specs.declared.alloc.Global.{Global}
 use Rattle.keys.specs.Bytes.{Bytes, Pairs}
 use Rattle.keys.specs.declared.command.Command.{Command}
+use Rattle.keys.specs.declared.command.Command.TheVariants.{Scan}
 use Rattle.keys.specs.declared.command.Reply.{Reply}
 use Rattle.keys.specs.declared.command.Reply.TheVariants.{Value, New, Added, Deleted, Rows, Wiped}
 
@@ -35,3 +36,25 @@ wiped_count _ = 0
 abbrev pub rows_of : Reply Global → Option (Pairs Bytes)
 rows_of (Rows es) = Some es
 rows_of _ = None
+
+-- ---- the rows of a batch
+
+-- how many rows the reply to a command may have: the limit of a scan
+abbrev pub row_limit : {A : Type 0} → Command A → ℕ
+row_limit (Scan lo hi limit) = limit
+row_limit _ = 0
+
+-- how many rows the replies to a batch may have together: the sum of the limits of its scans
+abbrev pub most_rows : {A : Type 0} → List (Command A) → ℕ
+most_rows [] = 0
+most_rows (c ∷ cs) = row_limit c + most_rows cs
+
+-- how many rows a reply has
+abbrev pub row_count : {A : Type 0} → Reply A → ℕ
+row_count (Rows es) = length es
+row_count _ = 0
+
+-- how many rows replies have together
+abbrev pub row_counts : {A : Type 0} → List (Reply A) → ℕ
+row_counts [] = 0
+row_counts (r ∷ rs) = row_count r + row_counts rs

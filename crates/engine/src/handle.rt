@@ -1,13 +1,13 @@
 //! A store with the arguments of its calls, and with the number of its pairs.
-ghost use Rattle.std.specs.Prelude.{◌≡◌, ◌-◌, ◌^◌, [], true, false, not, is_some, if◌then◌else◌, length, min, drop, reverse, slice_get, Err, IfOk, IfErr, MatchOption, OnOk, OnErr};
+ghost use Rattle.std.specs.Prelude.{◌≡◌, [], true, false, not, is_some, if◌then◌else◌, length, drop, reverse, slice_get, Err, IfOk, IfErr, MatchOption, OnOk, OnErr};
 ghost use Rattle.std.specs.Option.{option_copied, option_map};
 ghost use Rattle.keys.specs.OrderedMap.{value_at, with_pair, without};
-ghost use Rattle.keys.specs.Range.{in_range, out_of_range, rows};
+ghost use Rattle.keys.specs.Range.{in_range, out_of_range};
 ghost use Rattle.keys.specs.declared.command.Command.TheVariants.{Put, Add, Del, Wipe};
 ghost use Rattle.keys.specs.declared.command.Reply.TheVariants.{New, Replaced, Added, Exists, Deleted, Missing, Wiped};
 ghost use Rattle.mapping.specs.Levels.{contents};
-ghost use Rattle.scan.specs.Back.{rows_back};
 ghost use Rattle.scan.specs.Prefix.{with_prefix};
+ghost use Rattle.engine.specs.Bounds.{pairs_within};
 ghost use Rattle.engine.specs.Cleaning.{IsFlushedCleaning, IsStart, IsStoppedCleaning};
 ghost use Rattle.engine.specs.Handle.{IsCall, IsMade};
 ghost use Rattle.engine.specs.OneStep.{IsBatch};
@@ -15,6 +15,7 @@ ghost use Rattle.engine.specs.Refusal.{is_crew};
 ghost use Rattle.engine.specs.State.{State};
 
 mod batch;
+mod durable;
 mod tally;
 
 pub use crate::handle::batch::{Batch, Replies, Token};
@@ -25,19 +26,21 @@ use crate::store::Store;
 use crew::{Crew, NoGate};
 use flush_log::Disk;
 use keys::{Command, Fault, Key, Reply, Value};
-use scan::{Rows, RowsBack};
+use scan::Range;
 use std::alloc::{AllocError, Global};
 use std::marker::Model;
+use std::ops::RangeBounds;
 use std::thread::Threads;
 
 /// A store together with the runtime and the crew for its calls, and the number of its pairs: an ordered map of byte
 /// strings, with one call for each operation. `Store::with` makes it.
 ///
 /// Reads return references into the store's pages. They do not allocate, and also work in a store that has failed.
-/// Writes change the map in memory. Only `flush` makes them durable; dropping a handle does not flush.
+/// Writes change the map in memory. Only `flush` and `execute_durable` make writes durable, and all earlier writes with
+/// them; dropping a handle does not flush.
 ///
-/// After an `Err` of any call but `flush` the map is unchanged. The writes `put`, `add`, `del`, `wipe`, `pop_first` and
-/// `execute` fail with:
+/// After an `Err` of any call but `flush` and `execute_durable` the map is unchanged. The writes `put`, `add`, `del`,
+/// `wipe`, `pop_first` and `execute` fail with:
 ///
 /// - `Fault::NoMemory` if an allocation fails;
 /// - `Fault::Failed` if a call of the disk failed in an earlier flush or clean;
@@ -191,8 +194,8 @@ impl<'r, R: Threads + Sync, D: Disk> Handle<'r, R, D> {
         Ok(Replies::new(replies))
     }
 
-    /// Makes all earlier writes durable, and returns the sequence number. Calls `Store::flush_cleaning`, which cleans the
-    /// log if it is tight or full, and has the same faults. A flush syncs the disk up to three times, so flush once
+    /// Makes all earlier writes durable, and returns the sequence number. Calls `Store::flush_cleaning`, which cleans
+    /// the log if it is tight or full, and has the same faults. A flush syncs the disk up to three times, so flush once
     /// after many writes.
     ///
     /// After an `Err` the map in memory is unchanged. After `Fault::Full` the log is too small for the store: copy the
@@ -296,7 +299,7 @@ impl<'r, R, D: Disk> Handle<'r, R, D> {
         ensures { option_map (λ pair. (pair.0.now, pair.1.now)) result
             ≡ slice_get (contents self.now.store.tree) 0 }
     {
-        self.store.rows(b"", None, 1).next()
+        self.range(..).next()
     }
 
     /// Returns the pair with the greatest key.
@@ -304,41 +307,37 @@ impl<'r, R, D: Disk> Handle<'r, R, D> {
         ensures { option_map (λ pair. (pair.0.now, pair.1.now)) result
             ≡ slice_get (reverse (contents self.now.store.tree)) 0 }
     {
-        self.store.range_back(b"", None, 1).next()
+        self.range(..).next_back()
     }
 
-    /// Returns the pairs whose keys are at or above `lo` and below `hi` (if given), in key order. The bounds may have
-    /// any length, and are not borrowed by the rows. For the first `n` pairs write `range(lo, hi).take(n)`. The rows end
-    /// after 4,294,967,295 pairs.
-    pub fn range(&self, lo: &[u8], hi: Option<&[u8]>) -> Rows<'_>
-        ensures { result ≡ rows lo.now (option_copied hi.entry) (2 ^ 32 - 1)
-            (contents self.now.store.tree) }
+    /// Returns the pairs whose keys lie in the range, in key order. The range is `..` or has bounds of type `&[u8]`:
+    /// `lo..`, `..hi`, `lo..hi`, `..=hi`, `lo..=hi` or a pair of `Bound`s. The bounds may have any length, and are not
+    /// borrowed by the result. A range whose lower bound is above its upper bound has no pairs.
+    ///
+    /// The result iterates from both ends. `.rev()` returns the pairs from the greatest key down, and `.take(n)` the
+    /// first `n`.
+    pub fn range<'k, B: RangeBounds<&'k [u8]>>(&self, bounds: B) -> Range<'_>
+        ensures { B.has_bounds bounds → result ≡ pairs_within (B.start_bound bounds)
+            (B.end_bound bounds) (contents self.now.store.tree) }
     {
-        self.store.rows(lo, hi, u32::MAX)
+        self.store.pairs_in(bounds)
     }
 
-    /// Returns the pairs of `range` from the greatest key down. Here too the rows end after 4,294,967,295 pairs.
-    pub fn range_back(&self, lo: &[u8], hi: Option<&[u8]>) -> RowsBack<'_>
-        ensures { result ≡ rows_back lo.now (option_copied hi.entry) (2 ^ 32 - 1)
-            (contents self.now.store.tree) }
-    {
-        self.store.range_back(lo, hi, u32::MAX)
-    }
-
-    /// Returns the pairs whose keys begin with these bytes, in key order: all pairs if there are no bytes.
-    pub fn prefix(&self, bytes: &[u8]) -> Rows<'_>
+    /// Returns the pairs whose keys begin with these bytes, in key order: all pairs if there are no bytes. The result
+    /// iterates from both ends, as that of `range`.
+    pub fn prefix(&self, bytes: &[u8]) -> Range<'_>
         ensures { result ≡ with_prefix bytes.now (contents self.now.store.tree) }
     {
-        self.store.prefix(bytes)
+        self.store.pairs_with_prefix(bytes)
     }
 
-    /// Returns how many pairs have keys at or above `lo` and below `hi` (if given), or 4,294,967,295 if there are more.
-    /// Walks over these pairs and copies nothing.
-    pub fn count(&self, lo: &[u8], hi: Option<&[u8]>) -> u64
-        ensures { result ≡ min (length (in_range lo.now (option_copied hi.entry)
-            (contents self.now.store.tree))) (2 ^ 32 - 1) }
+    /// Returns how many pairs have keys in the range, whose forms are those of `range`. Walks over these pairs and
+    /// copies nothing.
+    pub fn count<'k, B: RangeBounds<&'k [u8]>>(&self, bounds: B) -> u128
+        ensures { B.has_bounds bounds → result ≡ length (pairs_within (B.start_bound bounds)
+            (B.end_bound bounds) (contents self.now.store.tree)) }
     {
-        self.store.count(lo, hi)
+        self.store.count(bounds)
     }
 
     fn alloc(&self) -> Global {

@@ -1,6 +1,6 @@
 //! Laws about sequences of batches, flushes, cleans and upgrades, in terms of the single calls. Each law is the
 //! contract of a function with an empty body.
-ghost use Rattle.std.specs.Prelude.{◌≡◌, ◌≢◌, ◌^◌, ◌<◌, ◌↔◌, ℕ, List, [], ◌∷◌, length, slice_get, take, None, Some, Ok, Err};
+ghost use Rattle.std.specs.Prelude.{◌≡◌, ◌≢◌, ◌^◌, ◌<◌, ◌≤◌, ◌↔◌, ℕ, List, [], ◌∷◌, length, slice_get, take, None, Some, Ok, Err};
 ghost use Rattle.std.specs.List.{AllByRecursion};
 ghost use Rattle.keys.specs.Bytes.{Bytes, Pairs};
 ghost use Rattle.keys.specs.Limits.{first_bad_field};
@@ -22,6 +22,7 @@ ghost use Rattle.recovery.specs.StoreOfDisk.{store_of_disk};
 ghost use Rattle.engine.specs.Batch.{refusal_by};
 ghost use Rattle.engine.specs.Batches.{replies_in_turn, map_in_turn, tree_in_turn};
 ghost use Rattle.engine.specs.Steps.{Step, AllNumbersFit, KeepsStores, ArePlayed, batching, plays};
+ghost use Rattle.engine.specs.Tokens.{most_rows, row_counts};
 
 use crate::step_laws::steps_are_played_one_by_one;
 use climb_plan::laws::{
@@ -43,6 +44,12 @@ pub fn a_token_finds_its_reply<A: Allocator>()
     ensures { (m : Pairs Bytes) (cs : List (Command A)) (token : ℕ) (c : Command A) →
         slice_get cs token ≡ Some c →
         slice_get (replies_to m cs) token ≡ Some (reply_to (map_after_all m (take token cs)) c) }
+{}
+
+/// The replies to a batch have together at most as many rows as the limits of its scans add up to.
+pub fn a_batch_returns_at_most_its_rows<A: Allocator>()
+    ensures { (m : Pairs Bytes) (cs : List (Command A)) →
+        row_counts (replies_to m cs) ≤ most_rows cs }
 {}
 
 /// A disk whose bytes do not begin with the magic word of a settings block has no store, whatever its other bytes are.

@@ -37,5 +37,5 @@ pub use crew::{BadCrew, Crew, Gate, NoGate};
 pub use flush_log::{
     CrashDisk, Disk, DiskFault, Failing, FaultDisk, FileDisk, Fill, LockFile, MemDisk,
 };
-pub use scan::{Rows, RowsBack};
+pub use scan::{Range, Rows, RowsBack};
 pub use verify::Report;

@@ -12,6 +12,7 @@ ghost use Rattle.engine.specs.declared.options.Access.TheVariants.{Existing};
 
 use crate::explain::ExplainedOpenFault;
 use crate::file_store::{DiskOfFile, OpenFault, new_store, store_of, with_reason};
+use crate::handle::Handle;
 use crate::refusal::admit_crew;
 use crate::store::Store;
 use crew::Crew;
@@ -109,9 +110,9 @@ pub enum Access {
 /// and the caller's thread works alone.
 ///
 ///     let settings = Settings::for_pairs(100_000, 64, 256)?;
-///     let mut store = Options::new()
+///     let mut map = Options::new()
 ///         .create(Creation::IfMissing, settings)
-///         .open(rt, "first.store")?;
+///         .open_map(rt, "first.store")?;
 #[derive(Clone, Copy, Debug, PartialEq, Eq)]
 pub struct Options {
     pub access: Access,
@@ -173,7 +174,7 @@ impl Options {
     }
 
     /// Lets `open` use up to this many threads, 1 to 64, the caller's among them. Later calls of the store get a crew of
-    /// their own.
+    /// their own. The calls of a handle from `open_map` use up to this many threads too.
     pub fn workers(self, workers: u32) -> Self
         ensures { result ≡ record self { crew = record self.crew { workers = workers } } }
     {
@@ -228,6 +229,54 @@ impl Options {
             (λ error. IfSome error.path (λ kept. string_bytes kept ≡ path.now)) }
     {
         with_path(rt.alloc(), path, self.store_at(rt, path))
+    }
+
+    /// Opens the store in the file at this path, as `open` does, and returns a handle of it, as `Store::with` does, whose
+    /// calls use this runtime and the crew of these options.
+    ///
+    /// Fails like `open`. Also fails with `Fault::NoMemory` if an allocation fails while the pairs are counted. A store
+    /// that was created before is then in the file.
+    pub fn open_map<'r, R: AllocGlobal + Threads + Sync + Files + Clock>(
+        self,
+        rt: &'r R,
+        path: &str,
+    ) -> Result<Handle<'r, R, FileDisk<R::File>>, OpenError>
+    where
+        R::File: LockFile,
+        ensures bad_crew { is_crew self.crew ≡ false →
+            HasOpenFault result (OpenFault.Store Fault.BadCrew) }
+        ensures opened { IsTrue (is_crew self.crew) → MatchOption (bad_field self.access)
+            ((file : Bytes) × MatchResult result (IsOpenedBy self.access file)
+            (λ error. IsRefusedBy self.access file error.fault))
+            (λ field. HasOpenFault result (OpenFault.Store (Fault.BadSettings field))) }
+        ensures fine { IfOk result (λ map. map.has_failed ≡ false) }
+        ensures path { IfErr result
+            (λ error. IfSome error.path (λ kept. string_bytes kept ≡ path.now)) }
+    {
+        with_path(rt.alloc(), path, self.map_at(rt, path))
+    }
+
+    // Opens the store at this path, and makes a handle of it.
+    fn map_at<'r, R: AllocGlobal + Threads + Sync + Files + Clock>(
+        self,
+        rt: &'r R,
+        path: &str,
+    ) -> Result<Handle<'r, R, FileDisk<R::File>>, OpenFault>
+    where
+        R::File: LockFile,
+        ensures bad_crew { is_crew self.crew ≡ false →
+            result ≡ Err (OpenFault.Store Fault.BadCrew) }
+        ensures opened { IsTrue (is_crew self.crew) → MatchOption (bad_field self.access)
+            ((file : Bytes) × MatchResult result (IsOpenedBy self.access file)
+            (IsRefusedBy self.access file))
+            (λ field. result ≡ Err (OpenFault.Store (Fault.BadSettings field))) }
+        ensures fine { IfOk result (λ map. map.has_failed ≡ false) }
+    {
+        let store = self.store_at(rt, path)?;
+        match store.with(rt, self.crew) {
+            Ok(map) => Ok(map),
+            Err(refused) => Err(OpenFault::Store(refused.0)),
+        }
     }
 
     // Opens the store at this path.

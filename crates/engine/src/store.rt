@@ -6,6 +6,7 @@ ghost use Rattle.engine.specs.OneStep.{IsBatch};
 ghost use Rattle.engine.specs.Refusal.{is_crew};
 ghost use Rattle.verify.specs.Report.{report};
 
+mod bounds;
 mod clean;
 mod clean_many;
 mod cleaning;

@@ -1,8 +1,8 @@
 //! Batches that are built command by command, and their replies.
-ghost use Rattle.std.specs.Prelude.{◌≡◌, [], slice_get, false, None, IfOk, MatchOption, OnErr};
+ghost use Rattle.std.specs.Prelude.{◌≡◌, ◌+◌, ◌-◌, ◌^◌, ◌<◌, ◌≤◌, min, [], slice_get, false, None, IfOk, MatchOption, OnErr};
 ghost use Rattle.std.specs.Option.{option_copied};
 ghost use Rattle.keys.specs.declared.command.Command.TheVariants.{Get, Put, Add, Del, Scan, Wipe};
-ghost use Rattle.engine.specs.Tokens.{IsAdded, is_new, was_deleted, value_of, rows_of, wiped_count};
+ghost use Rattle.engine.specs.Tokens.{IsAdded, is_new, most_rows, row_limit, was_deleted, value_of, rows_of, wiped_count};
 
 use keys::{Command, Key, Reply, RowList};
 use std::alloc::{AllocError, Global};
@@ -19,6 +19,8 @@ use std::marker::Model;
 pub struct Batch {
     alloc: Global,
     commands: Vec<Command<Global>>,
+    // The sum of the limits of the scans.
+    rows: u64,
 }
 
 /// Identifies a command of a batch. Contracts see it as the command's place in the batch.
@@ -28,13 +30,16 @@ pub struct Token {
 }
 
 impl Model for Batch {
-    ghost use Rattle.std.specs.Prelude.{List};
+    ghost use Rattle.std.specs.Prelude.{◌≡◌, ◌-◌, ◌^◌, List, min};
     ghost use Rattle.std.specs.declared.alloc.Global.{Global};
     ghost use Rattle.keys.specs.declared.command.Command.{Command};
+    ghost use Rattle.engine.specs.Tokens.{most_rows};
 
     ghost Value = { List (Command Global) };
 
     ghost view = { λ b. b.commands.items };
+
+    ghost invariant = { λ b. b.rows ≡ min (most_rows b.commands.items) (2 ^ 64 - 1) };
 }
 
 impl Model for Token {
@@ -55,6 +60,7 @@ impl Batch {
         Batch {
             alloc,
             commands: Vec::new(alloc),
+            rows: 0,
         }
     }
 
@@ -65,13 +71,23 @@ impl Batch {
         &self.commands
     }
 
+    /// Returns how many rows the replies to the batch may have together: the sum of the limits of its scans, or
+    /// `u64::MAX` if the sum is larger. Takes constant time.
+    pub fn most_rows(&self) -> u64
+        ensures { result ≡ min (most_rows self.now) (2 ^ 64 - 1) }
+    {
+        self.rows
+    }
+
     /// Adds a command that the caller made.
     pub fn push(&mut self, command: Command<Global>) -> Result<Token, AllocError>
         ensures added { IfOk result (IsAdded self.old self.new command) }
         ensures unchanged { OnErr result (self.new ≡ self.old) }
     {
         let place = self.commands.len();
+        let rows = self.rows.saturating_add(u64::from(row_limit(&command)));
         self.commands.push(command)?;
+        self.rows = rows;
         Ok(Token { place })
     }
 
@@ -123,6 +139,30 @@ impl Batch {
         self.push(command)
     }
 
+    /// Adds a scan as `scan` does, if the replies to the batch may then have at most `budget` rows together, as
+    /// `most_rows` counts them. Otherwise returns `None`, and the batch is unchanged. Rows are copied when the batch is
+    /// executed, so a budget limits the memory and the time that the scans of a batch take.
+    pub fn scan_within(
+        &mut self,
+        lo: &[u8],
+        hi: Option<&[u8]>,
+        limit: u32,
+        budget: u32,
+    ) -> Result<Option<Token>, AllocError>
+        ensures added { IfOk result (λ token. MatchOption token
+            ((budget < most_rows self.old + limit) × (self.new ≡ self.old))
+            (λ place. IsAdded self.old self.new (Scan lo.now (option_copied hi.entry) limit) place
+            × (most_rows self.new ≤ budget))) }
+        ensures unchanged { OnErr result (self.new ≡ self.old) }
+    {
+        let rows = self.rows.saturating_add(u64::from(limit));
+        if rows > u64::from(budget) {
+            return Ok(None);
+        }
+        let token = self.scan(lo, hi, limit)?;
+        Ok(Some(token))
+    }
+
     /// Adds a `Command::Wipe`, which deletes all keys at or above `lo` and below `hi` (if given). `Replies::wiped`
     /// returns how many keys there were.
     pub fn wipe(&mut self, lo: &[u8], hi: Option<&[u8]>) -> Result<Token, AllocError>
@@ -132,6 +172,16 @@ impl Batch {
     {
         let command = wipe_command(self.alloc, lo, hi)?;
         self.push(command)
+    }
+}
+
+// How many rows the reply to the command may have.
+fn row_limit(command: &Command<Global>) -> u32
+    ensures { result ≡ row_limit command.now }
+{
+    match command {
+        Command::Scan(_, _, limit) => *limit,
+        _ => 0,
     }
 }
 

@@ -148,7 +148,7 @@ impl<D: Disk> Store<D> {
     }
 
     // Refuses a batch that `batch` refuses before it executes anything. Else returns the commands that undo it.
-    fn undo_for(
+    pub(crate) fn undo_for(
         &self,
         crew: Crew,
         commands: &[Command<Global>],
@@ -195,7 +195,7 @@ impl<D: Disk> Store<D> {
     }
 
     // Flushes. If the flush is refused, executes the undo commands, unless a call of the disk failed.
-    fn flush_or_undo(
+    pub(crate) fn flush_or_undo(
         &mut self,
         rt: &(impl Threads + Sync),
         crew: Crew,

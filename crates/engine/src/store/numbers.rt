@@ -1,14 +1,13 @@
 //! Numbers for operating a store: how full its log is, whether a flush is due and what it would add, and how many pairs
 //! there are.
 ghost use Rattle.std.specs.Prelude.{◌≡◌, ◌≢◌, ◌⊎◌, ◌↔◌, ◌+◌, ◌^◌, ◌-◌, ◌<◌, ◌≤◌, [], length, min, None, Ok, IsTrue, IfOk, IfErr, false};
-ghost use Rattle.std.specs.Option.{option_copied};
 ghost use Rattle.keys.specs.Limits.{first_bad_field};
-ghost use Rattle.keys.specs.Range.{in_range};
 ghost use Rattle.keys.specs.declared.fault.Fault.TheVariants.{NoMemory};
 ghost use Rattle.mapping.specs.Levels.{contents};
 ghost use Rattle.flush_log.specs.Ends.{AreEnds};
 ghost use Rattle.flush_log.specs.FlushText.{flush_frames};
 ghost use Rattle.flush_log.specs.Segments.{last_segment};
+ghost use Rattle.engine.specs.Bounds.{pairs_within};
 ghost use Rattle.engine.specs.Pending.{FlushAdds, IsFlushRefused};
 ghost use Rattle.engine.specs.Refusal.{IsAdmitted, is_crew};
 
@@ -18,18 +17,17 @@ use crate::store::flush::plan;
 use crew::Crew;
 use flush_log::{CommitKind, Disk, LogEnds, is_all_written, last_segment};
 use keys::{Fault, Settings};
-use scan::Rows;
+use scan::Range;
+use std::ops::RangeBounds;
 use std::thread::Threads;
 
-// How many rows are left.
-fn count(rows: Rows<'_>) -> u64
-    requires { length rows < 2 ^ 32 }
-    ensures { result ≡ length rows.entry }
+// Takes the remaining pairs, and returns how many there were, or 2^128 - 1 if there were more.
+fn count(pairs: &mut Range<'_>) -> u128
+    ensures { result ≡ min (length pairs.old) (2 ^ 128 - 1) }
 {
-    let mut count = 0;
-    for row in rows {
-        let _seen = row;
-        count += 1;
+    let mut count = 0u128;
+    while let Some(_pair) = pairs.next() {
+        count = count.saturating_add(1);
     }
     count
 }
@@ -151,15 +149,18 @@ impl<D: Disk> Store<D> {
     pub fn pairs(&self) -> u64
         ensures { result ≡ min (length (contents self.now.store.tree)) (2 ^ 32 - 1) }
     {
-        count(Rows::new(self.alloc, &self.tree, b"", None, u32::MAX))
+        let pairs = self.count(..);
+        pairs.min(u128::from(u32::MAX)) as u64
     }
 
-    /// Returns how many pairs have keys at or above `lo` and below `hi` (if given), or 4,294,967,295 if there are more.
-    /// Does not allocate. Walks over these pairs, as `range` does.
-    pub fn count(&self, lo: &[u8], hi: Option<&[u8]>) -> u64
-        ensures { result ≡ min (length (in_range lo.now (option_copied hi.entry)
-            (contents self.now.store.tree))) (2 ^ 32 - 1) }
+    /// Returns how many pairs have keys in the range, whose forms are those of `pairs_in`. Does not allocate. Walks over
+    /// these pairs.
+    pub fn count<'k, B: RangeBounds<&'k [u8]>>(&self, bounds: B) -> u128
+        ensures { B.has_bounds bounds → result ≡ length (pairs_within (B.start_bound bounds)
+            (B.end_bound bounds) (contents self.now.store.tree)) }
     {
-        count(self.rows(lo, hi, u32::MAX))
+        // Only for the proof.
+        self.pairs_fit(&[]);
+        count(&mut self.pairs_in(bounds))
     }
 }

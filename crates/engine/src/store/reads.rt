@@ -15,17 +15,20 @@ ghost use Rattle.mapping.specs.TreeInMemory.{AreAllHome, tree_of};
 ghost use Rattle.replies.specs.ByPlace.{most_counted};
 ghost use Rattle.scan.specs.Back.{rows_back};
 ghost use Rattle.scan.specs.Prefix.{with_prefix};
+ghost use Rattle.engine.specs.Bounds.{pairs_within};
 ghost use Rattle.engine.specs.SoundTree.{IsReadable};
 
 use crate::execute::pairs_can_be_counted;
 use crate::store::Store;
+use crate::store::bounds::pairs_of;
 use delta_chain::Chain;
 use flush_log::Disk;
 use keys::{Command, Fault, Pid, Value};
 use mapping::Tree;
 use mapping::laws::the_contents_of_a_proper_tree_rise;
-use scan::{Rows, RowsBack, value_in};
+use scan::{Range, Rows, RowsBack, value_in};
 use std::alloc::{AllocError, Global};
+use std::ops::RangeBounds;
 
 impl<D: Disk> Store<D> {
     /// Returns the value at the key, if there is one, borrowed from its page. Takes one descent and a search in the
@@ -55,6 +58,26 @@ impl<D: Disk> Store<D> {
             ≡ rows lo.now (option_copied hi.entry) limit (contents self.now.store.tree) }
     {
         Rows::new(self.alloc, &self.tree, lo, hi, limit)
+    }
+
+    /// Returns the pairs whose keys lie in the range, which is `..` or has bounds of type `&[u8]`: `lo..`, `..hi`,
+    /// `lo..hi`, `..=hi`, `lo..=hi` or a pair of `Bound`s. `next` returns the remaining pair with the least key, and
+    /// `next_back` the one with the greatest key. The pairs are borrowed as those of `Store::range`, and the bounds are
+    /// not borrowed. A range whose lower bound is above its upper bound has no pairs. Takes a descent for each bound
+    /// that is given. Also works in a store that has failed.
+    pub fn pairs_in<'k, B: RangeBounds<&'k [u8]>>(&self, bounds: B) -> Range<'_>
+        ensures { B.has_bounds bounds → result ≡ pairs_within (B.start_bound bounds)
+            (B.end_bound bounds) (contents self.now.store.tree) }
+    {
+        pairs_of(self.alloc, &self.tree, bounds)
+    }
+
+    /// Returns the pairs whose keys begin with these bytes, as `pairs_in` does: all pairs if there are no bytes. The
+    /// bytes are not borrowed. Takes two descents. Also works in a store that has failed.
+    pub fn pairs_with_prefix(&self, bytes: &[u8]) -> Range<'_>
+        ensures { result ≡ with_prefix bytes.now (contents self.now.store.tree) }
+    {
+        Range::with_prefix(self.alloc, &self.tree, bytes)
     }
 
     // Returns the pairs of `range` in a list. Fails only if allocation fails.

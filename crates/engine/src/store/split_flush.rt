@@ -1,5 +1,5 @@
 //! A flush in parts, so that other threads can read the store while one thread waits for the disk.
-ghost use Rattle.std.specs.Prelude.{◌≡◌, ◌⊎◌, Err, IsTrue, IfOk, IfErr, MatchResult, true, false};
+ghost use Rattle.std.specs.Prelude.{◌≡◌, ◌⊎◌, Some, Err, IsTrue, IfOk, IfErr, MatchResult, true, false};
 ghost use Rattle.std.specs.Arc.{arc_value};
 ghost use Rattle.std.specs.Option.{option_copied};
 ghost use Rattle.keys.specs.OrderedMap.{value_at};
@@ -8,6 +8,7 @@ ghost use Rattle.keys.specs.declared.fault.Fault.TheVariants.{NoMemory};
 ghost use Rattle.mapping.specs.Levels.{contents};
 ghost use Rattle.scan.specs.Back.{rows_back};
 ghost use Rattle.scan.specs.Prefix.{with_prefix};
+ghost use Rattle.engine.specs.Bounds.{pairs_within};
 ghost use Rattle.engine.specs.OneStep.{IsStep};
 ghost use Rattle.engine.specs.Refusal.{is_crew};
 ghost use Rattle.engine.specs.State.{IsSound};
@@ -17,6 +18,7 @@ ghost use Rattle.engine.specs.Steps.Step.{Flush};
 
 use crate::refusal::admit_crew;
 use crate::store::Store;
+use crate::store::bounds::pairs_of;
 use crate::store::flush::plan;
 use crate::store::reads::value_of;
 use crew::Crew;
@@ -29,9 +31,10 @@ use recovery::laws::{
     what_was_upgraded_is_what_is_read,
 };
 use recovery::table_laws::a_table_marked_as_written_holds_the_flushed_tree;
-use scan::{Rows, RowsBack};
+use scan::{Range, Rows, RowsBack};
 use std::alloc::{AllocError, Global};
 use std::marker::Model;
+use std::ops::RangeBounds;
 use std::sync::Arc;
 use std::thread::Threads;
 
@@ -73,6 +76,14 @@ impl StoreInMemory {
             ≡ rows lo.now (option_copied hi.entry) limit (contents self.now.store.tree) }
     {
         Rows::new(self.alloc, &self.tree, lo, hi, limit)
+    }
+
+    /// Returns the pairs whose keys lie in the range, as `Store::pairs_in` does.
+    pub fn pairs_in<'k, B: RangeBounds<&'k [u8]>>(&self, bounds: B) -> Range<'_>
+        ensures { B.has_bounds bounds → result ≡ pairs_within (B.start_bound bounds)
+            (B.end_bound bounds) (contents self.now.store.tree) }
+    {
+        pairs_of(self.alloc, &self.tree, bounds)
     }
 
     /// Returns the last pairs of a range, from the greatest key down, as `Store::range_back` does.
@@ -294,11 +305,6 @@ impl<D: Disk> BegunFlush<D> {
     pub fn write(self) -> (WrittenFlush<D>, Result<u64, Fault>)
         ensures { IsStep D.view D.failed true self Flush result.1 (λ n. Flushed n) result.0 }
     {
-        // Only for the proof.
-        what_was_flushed_is_what_is_read();
-        what_was_upgraded_is_what_is_read();
-        a_crash_in_a_flush_leaves_the_store_before_or_after();
-        a_crash_in_an_upgrade_leaves_the_store_before_or_after();
         let BegunFlush {
             memory,
             disk,
@@ -314,28 +320,48 @@ impl<D: Disk> BegunFlush<D> {
             };
             return (written, Ok(sequence));
         };
-        let mut disk = disk;
-        let slot = commit.slot();
-        let settings = memory.settings();
-        match commit.write(&mut disk, &settings) {
-            Ok(()) => {
-                let written = WrittenFlush {
-                    memory,
-                    disk,
-                    written: Some(slot),
-                    has_failed: false,
-                };
-                (written, Ok(slot.ends.sequence))
-            }
-            Err(failed) => {
-                let written = WrittenFlush {
-                    memory,
-                    disk,
-                    written: None,
-                    has_failed: true,
-                };
-                (written, Err(failed.into()))
-            }
+        write_commit(memory, disk, commit)
+    }
+}
+
+// Writes the commit of a flush, and syncs it.
+fn write_commit<D: Disk>(
+    memory: Arc<StoreInMemory, Global>,
+    disk: D,
+    commit: Commit,
+) -> (WrittenFlush<D>, Result<u64, Fault>)
+    requires sound { IsSound D.view (state_on (arc_value memory) disk false) }
+    requires commit { IsCommitOf (arc_value memory).settings (arc_value memory).store
+        (Some commit) }
+    ensures { IsStep D.view D.failed true (state_on (arc_value memory) disk false) Flush result.1
+        (λ n. Flushed n) result.0 }
+{
+    // Only for the proof.
+    what_was_flushed_is_what_is_read();
+    what_was_upgraded_is_what_is_read();
+    a_crash_in_a_flush_leaves_the_store_before_or_after();
+    a_crash_in_an_upgrade_leaves_the_store_before_or_after();
+    let mut disk = disk;
+    let slot = commit.slot();
+    let settings = memory.settings();
+    match commit.write(&mut disk, &settings) {
+        Ok(()) => {
+            let written = WrittenFlush {
+                memory,
+                disk,
+                written: Some(slot),
+                has_failed: false,
+            };
+            (written, Ok(slot.ends.sequence))
+        }
+        Err(failed) => {
+            let written = WrittenFlush {
+                memory,
+                disk,
+                written: None,
+                has_failed: true,
+            };
+            (written, Err(failed.into()))
         }
     }
 }

@@ -1,12 +1,8 @@
-use Rattle.std.specs.Prelude.{◌<◌, ◌^◌, ℕ, List, [], length, None}
-use Rattle.std.proofs.Common.{sym, ap, subst, ◌∙◌}
+use Rattle.std.specs.Prelude.{ℕ, List, length}
+use Rattle.std.proofs.Common.{rules, ap, ◌∙◌}
 use Rattle.mapping.specs.Levels.{contents}
-use Rattle.mapping.specs.TreeInMemory.{tree_of}
-use Rattle.engine.proofs.NumbersLemmas.{few_rows, counted_rows}
+use Rattle.engine.proofs.BoundsLemmas.{unbounded}
 use Rattle.engine.proofs.store.Store.pairs.Goals as goal
 
-pub count-requires : goal.count-requires
-count-requires g c = subst (λ (xs : List (List ℕ × List ℕ)). length xs < 2 ^ 32) (sym c.new.ensures) (few_rows [] None (contents (tree_of c.self.inside.tree)))
-
 pub returns : goal.returns
-returns g c = rw (← c.self.view_is) (c.count.ensures ∙ ap length c.new.ensures ∙ counted_rows (contents (tree_of c.self.inside.tree)))
+returns g c = (let all = c.count-pairs.ensures tt ∙ ap (λ (es : List (List ℕ × List ℕ)). length es) (unbounded (contents c.args.self.now.store.tree)) in search rules)

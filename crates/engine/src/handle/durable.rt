@@ -1,0 +1,93 @@
+//! A batch and its flush as one call of a handle.
+ghost use Rattle.std.specs.Prelude.{◌≡◌, Err, IfOk, IfErr, MatchOption, MatchResult, true, false};
+ghost use Rattle.keys.specs.Step.{map_after_all, replies_to};
+ghost use Rattle.mapping.specs.Levels.{contents};
+ghost use Rattle.engine.specs.Durable.{IsDurable, IsUnwritten, contents_after};
+ghost use Rattle.engine.specs.Refusal.{refusal};
+
+use crate::handle::Handle;
+use crate::handle::batch::{Batch, Replies};
+use crate::handle::tally::pairs_left;
+use crate::store::Unwritten;
+use flush_log::Disk;
+use keys::{Command, Fault, Reply};
+use mapping::laws::the_contents_of_a_proper_tree_rise;
+use std::alloc::Global;
+use std::thread::Threads;
+
+impl<'r, R: Threads + Sync, D: Disk> Handle<'r, R, D> {
+    /// Executes the commands of the batch as `execute` does, and makes them and all earlier writes durable as `flush`
+    /// does. If the flush is refused, and no call of the disk failed, undoes the batch. Does what `Store::batch_durable`
+    /// does, with the same costs and the same errors.
+    ///
+    /// After `Unwritten::Undone` the map is as before the call, and nothing of the batch is read or becomes durable
+    /// later. After `Unwritten::InDoubt` the map has the batch in memory: with `Fault::Device` the store has failed, and
+    /// after `into_store`, `Store::reopen` returns the store of the last flush or of this one; with any other fault a
+    /// later flush makes the batch durable.
+    pub fn execute_durable(&mut self, batch: &Batch) -> Result<Replies, Unwritten>
+        // The replies are those of an ordered map, and the contents are those of the map after or before the batch.
+        ensures replies { IfOk result (λ replies.
+            replies ≡ replies_to (contents self.old.store.tree) batch.now) }
+        ensures contents { MatchResult result
+            (λ _. contents self.new.store.tree
+            ≡ map_after_all (contents self.old.store.tree) batch.now)
+            (λ unwritten. contents self.new.store.tree
+            ≡ contents_after (contents self.old.store.tree) batch.now unwritten) }
+
+        // Executed as a batch, and flushed: all that is promised of both.
+        ensures durable { IfOk result (λ replies. IsDurable D.view D.failed true
+            self.old batch.now replies self.new) }
+
+        // Which fault, and what is left then.
+        ensures failed { self.old.has_failed ≡ true →
+            (result ≡ Err (Unwritten.Undone Fault.Failed)) × (self.new ≡ self.old) }
+        ensures refused { self.old.has_failed ≡ false →
+            MatchOption (refusal self.old.settings batch.now)
+            (IfErr result (IsUnwritten D.view D.failed true self.old batch.now self.new))
+            (λ fault. (result ≡ Err (Unwritten.Undone fault)) × (self.new ≡ self.old)) }
+    {
+        let replies = self.execute_or_undo(batch.commands())?;
+        Ok(Replies::new(replies))
+    }
+
+    // Executes the commands and flushes, or undoes them.
+    fn execute_or_undo(
+        &mut self,
+        commands: &[Command<Global>],
+    ) -> Result<Vec<Reply<Global>>, Unwritten>
+        ensures replies { IfOk result (λ replies.
+            replies.items ≡ replies_to (contents self.old.store.tree) commands.now) }
+        ensures contents { MatchResult result
+            (λ _. contents self.new.store.tree
+            ≡ map_after_all (contents self.old.store.tree) commands.now)
+            (λ unwritten. contents self.new.store.tree
+            ≡ contents_after (contents self.old.store.tree) commands.now unwritten) }
+        ensures durable { IfOk result (λ replies. IsDurable D.view D.failed true
+            self.old commands.now replies.items self.new) }
+        ensures failed { self.old.has_failed ≡ true →
+            (result ≡ Err (Unwritten.Undone Fault.Failed)) × (self.new ≡ self.old) }
+        ensures refused { self.old.has_failed ≡ false →
+            MatchOption (refusal self.old.settings commands.now)
+            (IfErr result (IsUnwritten D.view D.failed true self.old commands.now self.new))
+            (λ fault. (result ≡ Err (Unwritten.Undone fault)) × (self.new ≡ self.old)) }
+    {
+        // Only for the proof.
+        the_contents_of_a_proper_tree_rise();
+        let before = self.pairs;
+        let undo = match self.store.undo_for(self.crew, commands) {
+            Ok(undo) => undo,
+            Err(fault) => return Err(Unwritten::Undone(fault)),
+        };
+        let replies = match self.execute_all(commands) {
+            Ok(replies) => replies,
+            Err(fault) => return Err(Unwritten::Undone(fault)),
+        };
+        match self.store.flush_or_undo(self.rt, self.crew, &undo) {
+            Ok(()) => Ok(replies),
+            Err(unwritten) => {
+                self.pairs = pairs_left(before, self.pairs, &unwritten);
+                Err(unwritten)
+            }
+        }
+    }
+}
