@@ -5,13 +5,13 @@ ghost use Rattle.std.specs.Prelude.{◌≡◌, IfOk, OnErr};
 ghost use Rattle.delta_chain.specs.Layers.{entries_of};
 ghost use Rattle.consolidate.specs.PutBack.{put_back};
 
-use delta_chain::{Base, Chain};
-use keys::{Cell, KeyRef};
+use delta_chain::{Base, Chain, Guess};
+use keys::Cell;
 use std::alloc::{AllocError, Allocator};
 
-// `take_base` moves each cell out of the run that holds it, which it searches run by run. With more runs than this the
-// searches cost more than copying the cells.
-const FEW_RUNS: u64 = 8;
+// `take_base` moves each cell out of the run that holds it. A chain with more runs than this has no list of its newest
+// changes, so it would be searched run by run, which costs more than copying the cells.
+const FEW_RUNS: u64 = 64;
 
 /// Returns a base of the page's entries: the keys that are present, with copies of their cells. Reads `chain` only.
 pub fn consolidate<V: Cell<A> + Drop, A: Allocator + Copy>(
@@ -39,11 +39,10 @@ pub fn take_base<V: Cell<A> + Drop, A: Allocator + Copy>(
         return consolidate(alloc, chain);
     }
     let mut base = chain.pairs(alloc)?.blank_base(alloc)?;
-    let mut guess = 0;
+    let mut guess = Guess::start();
     for at in 0..base.len() {
-        let key = KeyRef::new(base.key(at));
         let mut cell = V::blank(alloc);
-        chain.swap_cell(&key, &mut cell, &mut guess);
+        chain.swap_cell(&base.key_ref(at), &mut cell, &mut guess);
         let _blank = base.exchange(at, cell);
     }
     Ok(base)
@@ -58,12 +57,11 @@ pub fn put_back<V: Cell<A> + Drop, A: Allocator + Copy>(
     ensures { chain.new ≡ put_back chain.old base }
 {
     let mut base = base;
-    let mut guess = 0;
+    let mut guess = Guess::start();
     let mut left = base.len();
     while left > 0 {
         left -= 1;
         let mut cell = base.exchange(left, V::blank(alloc));
-        let key = KeyRef::new(base.key(left));
-        chain.swap_cell(&key, &mut cell, &mut guess);
+        chain.swap_cell(&base.key_ref(left), &mut cell, &mut guess);
     }
 }

@@ -233,8 +233,14 @@ module _ {V : Type 0} where
   pub cell-base : (base : List (List ℕ × V)) (at : ℕ) (k : List ℕ) (w v : V) → IsRising base → slice_get (keys_of base) at ≡ Some k → slice_get (values_of base) at ≡ Some w → w ≡ unwrap_or (value_at k base) v
   cell-base base at k w v r h g = let there : value_at k base ≡ Some w = value_at-found base at k r h ∙ g in rw there refl
 
+  pub said-base : (base : List (List ℕ × V)) (at : ℕ) (k : List ℕ) (w : V) → IsRising base → slice_get (keys_of base) at ≡ Some k → slice_get (values_of base) at ≡ Some w → true ≡ is_some (value_at k base)
+  said-base base at k w r h g = let there : value_at k base ≡ Some w = value_at-found base at k r h ∙ g in rw there refl
+
   pub missed-cell : (base : List (List ℕ × V)) (k : List ℕ) (v : V) → value_at k base ≡ None → v ≡ unwrap_or (value_at k base) v
   missed-cell base k v h = rw h refl
+
+  pub said-missed : (base : List (List ℕ × V)) (k : List ℕ) → value_at k base ≡ None → false ≡ is_some (value_at k base)
+  said-missed base k h = rw h refl
 
   pub missed-base : (base : List (List ℕ × V)) (k : List ℕ) (v : V) → value_at k base ≡ None → Base base ≡ exchanged (Base base) k v
   missed-base base k v h = rw h refl

@@ -12,6 +12,7 @@ pub mod Merges
 pub mod Overlays
 mod Packing
 pub mod Places
+mod Putting
 pub mod Rising
 mod RunList
 pub mod Setting

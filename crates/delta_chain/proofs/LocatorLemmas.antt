@@ -1,7 +1,7 @@
 -- The locators of the newest changes of a page's runs.
 use Rattle.std.specs.Prelude.{◌≡◌, ℕ, zero, suc, ◌+◌, ◌-◌, ◌<◌, ◌≤◌, ◌^◌, Bool, true, false, cond, List, [], ◌∷◌, ◌++◌, length, get_or, take, drop, reverse, set, slice_get, Option, Some, None, IfSome, is_some, ⊤}
 use Rattle.std.proofs.Common.{refl, sym, ap, ◌∙◌, arith, append_assoc, append-nil, add-one, Less}
-use Rattle.std.specs.List.{AllByRecursion, insert}
+use Rattle.std.specs.List.{AllByRecursion}
 use Rattle.std.specs.List.Sorted.{IsStrictlySortedBy}
 use Rattle.std.specs.Map.{keys_of, values_of}
 use Rattle.std.specs.Option.{unwrap_or}
@@ -25,6 +25,7 @@ use Rattle.delta_chain.proofs.Halves.{reported, value_at-overlaid}
 use Rattle.delta_chain.proofs.LayerLemmas.{value_at-with_run, rising-with_run}
 use Rattle.delta_chain.proofs.Merges.{run_after, rising_after, run_past}
 use Rattle.delta_chain.proofs.Overlays.{rising-none, rising-joined_changes, held-joined_changes, entries-joined_changes}
+use Rattle.delta_chain.proofs.Putting.{set_parts}
 use Rattle.delta_chain.proofs.Setting.{with_pair-found, value_at-found}
 
 -- ---- lists
@@ -45,11 +46,6 @@ module _ {X : Type 0} where
   get_or-there [] i d x h = absurd (cc)
   get_or-there (y ∷ xs) zero d x h = (omega arith, cc)
   get_or-there (y ∷ xs) (suc i) d x h = let rest = get_or-there xs i d x h in (omega (arith, rest.0), rest.1)
-
-  set_parts : (xs : List X) (i : ℕ) (x : X) → i < length xs → set xs i x ≡ take i xs ++ x ∷ drop (suc i) xs
-  set_parts [] i x h = absurd (omega arith)
-  set_parts (y ∷ xs) zero x h = refl
-  set_parts (y ∷ xs) (suc i) x h = let l : i < length xs = omega arith in ap (λ (ys : List X). y ∷ ys) (set_parts xs i x l)
 
   -- within the list any default gives the same
   get_or-any : (xs : List X) (i : ℕ) (d e : X) → i < length xs → get_or xs i d ≡ get_or xs i e
@@ -680,15 +676,10 @@ module _ (runs : List (List Bytes)) (ls : List Locator) where
   pub key_there_in : (at : ℕ) (d : Locator) → at < length ls → slice_get (keys_of (keyed runs ls)) at ≡ Some (key_at runs (get_or ls at d))
   key_there_in at d l = key_keyed runs ls at (get_or ls at d) (slice_get-get_or ls at d l)
 
--- what setting a key gives, by the result of a search for it
-pub split_found : (runs : List (List Bytes)) (ls : List Locator) (at : ℕ) (k : Bytes) (l : Locator) → IsRising (keyed runs ls) → at < length (keyed runs ls) → slice_get (keys_of (keyed runs ls)) at ≡ Some k
-    → with_pair (keyed runs ls) k l ≡ keyed runs (take at ls) ++ (k, l) ∷ keyed runs (take (length ls - (at + 1)) (drop (at + 1) ls))
-split_found runs ls at k l r n h =
-    rw (take_rest ls (at + 1)) (simp add-one (pair_between runs ls at (suc at) k l (pair_found (keyed runs ls) at k l r n h)))
-
-pub split_missing : (runs : List (List Bytes)) (ls : List Locator) (at : ℕ) (k : Bytes) (l : Locator) → with_pair (keyed runs ls) k l ≡ insert (keyed runs ls) at (k, l)
-    → with_pair (keyed runs ls) k l ≡ keyed runs (take at ls) ++ (k, l) ∷ keyed runs (take (length ls - at) (drop at ls))
-split_missing runs ls at k l h = rw (take_rest ls at) (pair_between runs ls at at k l h)
+-- what setting a key gives, by the bounds of the place where it is
+pub apart_rest : (runs : List (List Bytes)) (ls : List Locator) (below above : ℕ) (k : Bytes) (l : Locator) → with_pair (keyed runs ls) k l ≡ keyed runs (take below ls) ++ (k, l) ∷ keyed runs (drop above ls)
+    → with_pair (keyed runs ls) k l ≡ keyed runs (take below ls) ++ (k, l) ∷ keyed runs (take (length ls - above) (drop above ls))
+apart_rest runs ls below above k l h = rw (take_rest ls above) h
 
 pub all_rest : (runs : List (List Bytes)) (ls : List Locator) (at : ℕ) → AllByRecursion (IsIn runs) ls → AllByRecursion (IsIn runs) (take (length ls - at) (drop at ls))
 all_rest runs ls at a = all-take (IsIn runs) (length ls - at) (drop at ls) (all-drop (IsIn runs) at ls a)
@@ -985,6 +976,9 @@ module _ {V : Type 0} (runs : List (Changes V)) (base : Pairs V) (a : AllRise (r
   pub cell-found : (cell : V) → cell ≡ unwrap_or (change_at lent l) v → cell ≡ unwrap_or (held_under k (reverse runs) base) v
   cell-found cell d = d ∙ ap (λ (rs : List (Changes V)). unwrap_or (change_at rs l) v) e ∙ ap (λ (o : Option V). unwrap_or o v) (sym (held-found runs base a k l is))
 
+  pub said-found : (found : Bool) → found ≡ is_some (change_at lent l) → found ≡ is_some (held_under k (reverse runs) base)
+  said-found found d = d ∙ ap (λ (rs : List (Changes V)). is_some (change_at rs l)) e ∙ ap is_some (sym (held-found runs base a k l is))
+
 -- of a page whose runs do not contain the key: the cell in the base is exchanged, if there is one
 module _ {V : Type 0} (runs : List (Changes V)) (base : Pairs V) (a : AllRise (reverse runs) base) (k : Bytes) (v : V) (is : None ≡ value_at k (newest_locators (reverse (keys_of_runs runs)))) where
   pub page-missing : (now : Pairs V) → Page [] now ≡ exchanged (Page [] base) k v → Page runs now ≡ exchanged (Page runs base) k v
@@ -995,3 +989,6 @@ module _ {V : Type 0} (runs : List (Changes V)) (base : Pairs V) (a : AllRise (r
 
   pub cell-missing : (cell : V) → cell ≡ unwrap_or (value_at k base) v → cell ≡ unwrap_or (held_under k (reverse runs) base) v
   cell-missing cell d = d ∙ ap (λ (o : Option V). unwrap_or o v) (sym (held-missing runs base a k is))
+
+  pub said-missing : (found : Bool) → found ≡ is_some (value_at k base) → found ≡ is_some (held_under k (reverse runs) base)
+  said-missing found d = d ∙ ap is_some (sym (held-missing runs base a k is))

@@ -6,7 +6,9 @@ use native.Mathlib.Numerals.{unary_clauses}
 use Rattle.std.specs.List.Sorted.{IsStrictlySortedBy}
 use Rattle.std.specs.Map.{keys_of, values_of}
 use Rattle.delta_chain.specs.Building.{goes_last}
-use Rattle.delta_chain.specs.Packed.{packed_from, AreEnds, IsPacked}
+use Rattle.keys.specs.Words.{IsWordOf}
+use Rattle.delta_chain.specs.Packed.{packed_from, ends_of, AreEnds, AreMarked, IsPacked}
+use Rattle.delta_chain.specs.declared.base.KeyMark.{KeyMark}
 use Rattle.delta_chain.proofs.Rising.{rising-push}
 
 -- ---- where keys end
@@ -127,3 +129,38 @@ module _ {V : Type 0} where
   pub IsPacked-empty : IsPacked {V = V} [] [] []
   unfolding IsStrictlySortedBy
   IsPacked-empty = record { count = refl; cut = refl; rising = tt }
+
+-- ---- marks
+
+pub length-ends_of : (marks : List KeyMark) → length (ends_of marks) ≡ length marks
+length-ends_of [] = refl
+length-ends_of (m ∷ marks) = ap suc (length-ends_of marks)
+
+-- the end at a place
+pub end_there : (marks : List KeyMark) (at : ℕ) (m : KeyMark) → m ≡ get_or marks at m → m.end ≡ get_or (ends_of marks) at m.end
+end_there [] at m h = refl
+end_there (n ∷ marks) zero m h = ap (λ (k : KeyMark). k.end) h
+end_there (n ∷ marks) (suc at) m h = end_there marks at m h
+
+-- the first word of the key at a place
+pub marked_there : (keys : List (List ℕ)) (marks : List KeyMark) (at : ℕ) (k : List ℕ) (m : KeyMark) → AreMarked keys marks → slice_get keys at ≡ Some k → m ≡ get_or marks at m → IsWordOf m.word k
+marked_there [] marks at k m a h i = absurd (cc)
+marked_there (j ∷ keys) [] at k m a h i = absurd a
+marked_there (j ∷ keys) (n ∷ marks) zero k m a h i =
+    let s : j ≡ k = cc in
+    rw (i, ← s) a.0
+marked_there (j ∷ keys) (n ∷ marks) (suc at) k m a h i = marked_there keys marks at k m a.1 h i
+
+pub AreMarked-push : (keys : List (List ℕ)) (marks : List KeyMark) (k : List ℕ) (m : KeyMark) → AreMarked keys marks → IsWordOf m.word k → AreMarked (keys ++ k ∷ []) (marks ++ m ∷ [])
+AreMarked-push [] [] k m a w = (w, tt)
+AreMarked-push [] (n ∷ marks) k m a w = absurd a
+AreMarked-push (j ∷ keys) [] k m a w = absurd a
+AreMarked-push (j ∷ keys) (n ∷ marks) k m a w = (a.0, AreMarked-push keys marks k m a.1 w)
+
+pub ends_of-push : (marks : List KeyMark) (m : KeyMark) → ends_of (marks ++ m ∷ []) ≡ ends_of marks ++ m.end ∷ []
+ends_of-push [] m = refl
+ends_of-push (n ∷ marks) m = ap (λ (es : List ℕ). n.end ∷ es) (ends_of-push marks m)
+
+pub keys_of-push : {V : Type 0} (es : List (List ℕ × V)) (k : List ℕ) (v : V) → keys_of (es ++ (k, v) ∷ []) ≡ keys_of es ++ k ∷ []
+keys_of-push [] k v = refl
+keys_of-push (e ∷ es) k v = ap (λ (ks : List (List ℕ)). e.0 ∷ ks) (keys_of-push es k v)

@@ -5,7 +5,9 @@ use Rattle.std.specs.List.{insert}
 use Rattle.std.specs.List.Sorted.{IsNonDecreasingBy, IsBinarySearchResult, IsSearchInRange}
 use Rattle.std.specs.Map.{keys_of, values_of}
 use Rattle.std.specs.Ordering.{ordering_index}
+use Rattle.std.proofs.lemmas.Map.Entries.{length-keys_of}
 use Rattle.std.proofs.lemmas.Map.Keys.{sorted_head, sorted_tail}
+use Rattle.std.proofs.lemmas.Option.{slice_get-get_or}
 use Rattle.keys.specs.Order.{order, IsRising}
 use Rattle.keys.specs.OrderedMap.{value_at, with_pair}
 use Rattle.keys.proofs.MapLemmas.{IsBelowAll, total, same_key, order_itself, flipped_less, flipped_greater}
@@ -56,6 +58,9 @@ module _ {T : Type 0} where
   comparisons_rise (e ∷ es) k r (suc i) (suc j) d le lt = comparisons_rise es k (sorted_tail order e.0 (keys_of es) r) i j d (omega arith) (omega arith)
 
   -- ---- a key that is there
+
+  pub some_key : (es : List (List ℕ × T)) (at : ℕ) → at < length es → slice_get (keys_of es) at ≡ Some (slice_index_or (keys_of es) at [])
+  some_key es at l = slice_get-get_or (keys_of es) at [] (omega (arith, length-keys_of es))
 
   key_found : (es : List (List ℕ × T)) (at : ℕ) (k : List ℕ) → at < length es → ((d : List ℕ × T) → order (slice_index_or es at d).0 k ≡ Equal) → slice_get (keys_of es) at ≡ Some k
   key_found [] at k l h = absurd (omega arith)

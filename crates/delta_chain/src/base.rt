@@ -2,12 +2,13 @@
 ghost use Rattle.std.specs.Prelude.{◌≡◌, ◌<◌, ◌≤◌, ◌∷◌, ◌++◌, [], true, length, slice_get, Some, None, IfOk, IfSome, MatchOption, OnOk, OnErr};
 ghost use Rattle.std.specs.Map.{keys_of, values_of};
 ghost use Rattle.std.specs.Option.{option_copied};
-ghost use Rattle.keys.specs.Order.{IsRising};
+ghost use Rattle.keys.specs.Bytes.{Bytes};
+ghost use Rattle.keys.specs.Order.{order, IsRising};
 ghost use Rattle.keys.specs.OrderedMap.{value_at};
 ghost use Rattle.delta_chain.specs.Building.{goes_last};
 ghost use Rattle.delta_chain.specs.Exchange.{exchanged_at};
 
-use keys::compare;
+use keys::{KeyRef, compare};
 use std::alloc::{AllocError, Allocator};
 use std::cmp::Ordering;
 use std::marker::Model;
@@ -20,20 +21,30 @@ use std::mem;
 pub struct Base<V, A: Allocator> {
     // The concatenated keys.
     bytes: Vec<u8, A>,
-    // The end of each key in `bytes`.
-    ends: Vec<usize, A>,
+    // The first word and the end in `bytes` of each key. A search reads few keys beside these.
+    marks: Vec<KeyMark, A>,
     cells: Vec<V, A>,
 }
 
+// The first eight bytes of a key, and its end among the bytes of all keys.
+#[derive(Clone, Copy)]
+struct KeyMark {
+    word: u64,
+    end: usize,
+}
+
 impl<V, A: Allocator> Model for Base<V, A> {
+    ghost use Rattle.std.specs.Map.{keys_of};
     ghost use Rattle.keys.specs.Bytes.{Pairs};
-    ghost use Rattle.delta_chain.specs.Packed.{packed_from, IsPacked};
+    ghost use Rattle.delta_chain.specs.Packed.{packed_from, ends_of, IsPacked, AreMarked};
 
     ghost Value = { Pairs V };
 
-    ghost view = { λ b. packed_from 0 b.bytes.items b.ends.items b.cells.items };
+    ghost view = { λ b. packed_from 0 b.bytes.items (ends_of b.marks.items) b.cells.items };
 
-    ghost invariant = { λ b. IsPacked b.bytes.items b.ends.items b.cells.items };
+    ghost invariant = { λ b. IsPacked b.bytes.items (ends_of b.marks.items) b.cells.items
+        × AreMarked (keys_of (packed_from 0 b.bytes.items (ends_of b.marks.items) b.cells.items))
+        b.marks.items };
 }
 
 impl<V, A: Allocator + Copy> Base<V, A> {
@@ -43,7 +54,7 @@ impl<V, A: Allocator + Copy> Base<V, A> {
     {
         Base {
             bytes: Vec::new(alloc),
-            ends: Vec::new(alloc),
+            marks: Vec::new(alloc),
             cells: Vec::new(alloc),
         }
     }
@@ -53,9 +64,13 @@ impl<V, A: Allocator + Copy> Base<V, A> {
         ensures { IfOk result (λ base. base ≡ []) }
     {
         let bytes = Vec::with_capacity(alloc, bytes)?;
-        let ends = Vec::with_capacity(alloc, count)?;
+        let marks = Vec::with_capacity(alloc, count)?;
         let cells = Vec::with_capacity(alloc, count)?;
-        Ok(Base { bytes, ends, cells })
+        Ok(Base {
+            bytes,
+            marks,
+            cells,
+        })
     }
 
     pub(crate) fn alloc(&self) -> A {
@@ -75,12 +90,37 @@ impl<V, A: Allocator + Copy> Base<V, A> {
         requires { at < length self.now }
         ensures { slice_get (keys_of self.now) at ≡ Some result.now }
     {
-        let end = self.ends[at];
+        let end = self.marks[at].end;
         if at == 0 {
             &self.bytes[0..end]
         } else {
-            &self.bytes[self.ends[at - 1]..end]
+            &self.bytes[self.marks[at - 1].end..end]
         }
+    }
+
+    /// Returns the key at place `at`, counted from 0, with its first word for quick comparisons.
+    #[inline]
+    pub fn key_ref(&self, at: usize) -> KeyRef<'_>
+        requires { at < length self.now }
+        ensures { slice_get (keys_of self.now) at ≡ Some result }
+    {
+        KeyRef::of_word(self.marks[at].word, self.key(at))
+    }
+
+    /// Compares the key at place `at`, counted from 0, to `key`. Reads its bytes only if the first words are equal.
+    #[inline]
+    pub fn compare_at(&self, at: usize, key: &KeyRef<'_>) -> Ordering
+        requires { at < length self.now }
+        ensures { (k : Bytes) → slice_get (keys_of self.now) at ≡ Some k → result ≡ order k key.now }
+    {
+        let word = self.marks[at].word;
+        if word < key.word() {
+            return Ordering::Less;
+        }
+        if word > key.word() {
+            return Ordering::Greater;
+        }
+        compare(self.key(at), key.as_bytes())
     }
 
     /// Returns the cell at place `at`, counted from 0.
@@ -93,7 +133,7 @@ impl<V, A: Allocator + Copy> Base<V, A> {
 
     // The place of the key, or `None` if the base has no such key. Tries the caller's `guess` first, then does a binary
     // search.
-    pub(crate) fn place_near(&self, guess: usize, key: &[u8]) -> Option<usize>
+    pub(crate) fn place_near(&self, guess: usize, key: &KeyRef<'_>) -> Option<usize>
         ensures place { MatchOption result (value_at key.now self.now ≡ None)
             (λ at. slice_get (keys_of self.now) at ≡ Some key.now) }
         ensures within { IfSome result (λ at. at < length self.now) }
@@ -102,7 +142,7 @@ impl<V, A: Allocator + Copy> Base<V, A> {
         let mut high = self.len();
         while low < high {
             let middle = next_place(guess, low, high);
-            match compare(self.key(middle), key) {
+            match self.compare_at(middle, key) {
                 Ordering::Less => low = middle + 1,
                 Ordering::Equal => return Some(middle),
                 Ordering::Greater => high = middle,
@@ -112,7 +152,7 @@ impl<V, A: Allocator + Copy> Base<V, A> {
     }
 
     // The cell of `key`, if the base has the key.
-    pub(crate) fn get(&self, key: &[u8]) -> Option<&V>
+    pub(crate) fn get(&self, key: &KeyRef<'_>) -> Option<&V>
         ensures { option_copied result ≡ value_at key.now self.now }
     {
         // Only for the proof: the keys rise.
@@ -161,10 +201,12 @@ impl<V: Drop, A: Allocator + Copy> Base<V, A> {
         ensures ok { OnOk result (self.new ≡ self.old ++ (key.now, cell) ∷ []) }
         ensures err { OnErr result (self.new ≡ self.old) }
     {
-        self.ends.reserve(1)?;
+        self.marks.reserve(1)?;
         self.cells.reserve(1)?;
         self.bytes.extend_from_slice(key)?;
-        self.ends.push_reserved(self.bytes.len());
+        let word = KeyRef::new(key).word();
+        let end = self.bytes.len();
+        self.marks.push_reserved(KeyMark { word, end });
         self.cells.push_reserved(cell);
         Ok(())
     }

@@ -1,5 +1,5 @@
 //! The state of a page: runs in front of a base, owned (`Chain`) or borrowed (`ChainRef`).
-ghost use Rattle.std.specs.Prelude.{◌≡◌, ◌<◌, ◌≤◌, ◌+◌, ◌-◌, ◌∷◌, [], false, List, length, min, take, drop, reverse, vec_len, vec_capacity, if◌then◌else◌, OnOk, OnErr, IfOk, IfErr, MatchOption};
+ghost use Rattle.std.specs.Prelude.{◌≡◌, ◌<◌, ◌≤◌, ◌+◌, ◌-◌, ◌∷◌, [], false, List, is_some, length, min, take, drop, reverse, vec_len, vec_capacity, if◌then◌else◌, OnOk, OnErr, IfOk, IfErr, MatchOption};
 ghost use Rattle.std.specs.List.{sum_by};
 ghost use Rattle.std.specs.Option.{option_copied, unwrap_or};
 ghost use Rattle.keys.specs.Bytes.{Bytes};
@@ -10,7 +10,7 @@ ghost use Rattle.delta_chain.specs.Located.{keys_of_runs};
 ghost use Rattle.delta_chain.specs.Layers.{Layers, holds, held_under, entries_of, depth_of, IsInOrder};
 
 use crate::base::Base;
-use crate::locators::{Locator, lent_changes, locate, remove_newest, with_newest};
+use crate::locators::{Locator, add_newest, lent_changes, locate, locate_near, remove_newest};
 use crate::merging::{copied, lent_base, merged, with_run};
 use crate::pairs::Pairs;
 use crate::run::Run;
@@ -70,6 +70,23 @@ impl<'a, V, A: Allocator> Model for ChainRef<'a, V, A> {
     ghost Value = { Layers V };
 
     ghost view = { λ c. record { runs = reverse c.runs.now; base = c.base.now } };
+}
+
+/// Where `Chain::swap_cell` searches first: in the list of newest changes, and in the base.
+#[derive(Clone, Copy)]
+pub struct Guess {
+    in_list: usize,
+    in_base: usize,
+}
+
+impl Guess {
+    /// Returns the guess for the first search: the start of the list and of the base.
+    pub fn start() -> Guess {
+        Guess {
+            in_list: 0,
+            in_base: 0,
+        }
+    }
 }
 
 impl EntryBounds {
@@ -256,7 +273,7 @@ impl<V, A: Allocator + Copy> Chain<V, A> {
         let key = KeyRef::new(key);
         match locate(&self.list, &self.runs, &key) {
             Some(locator) => locator.change(&self.runs),
-            None => self.base.get(key.as_bytes()),
+            None => self.base.get(&key),
         }
     }
 
@@ -296,9 +313,8 @@ impl<V: Drop, A: Allocator + Copy> Chain<V, A> {
         if let Err(refused) = make_room(&mut self.runs) {
             return Err((refused, run));
         }
-        match with_newest(self.base.alloc(), &self.list, &self.runs, &run) {
-            Ok(list) => self.list = list,
-            Err(refused) => return Err((refused, run)),
+        if let Err(refused) = add_newest(self.base.alloc(), &mut self.list, &self.runs, &run) {
+            return Err((refused, run));
         }
         self.entries = self.entries.with_changes(run.len());
         self.runs.push_reserved(run);
@@ -318,20 +334,23 @@ impl<V: Drop, A: Allocator + Copy> Chain<V, A> {
     }
 
     /// Swaps `cell` with the cell that the page holds at `key`: in the newest run that contains the key, or in the
-    /// base, where it is first looked for at place `guess`. Sets `guess` to the place after it. If the page holds no
-    /// cell at the key, neither changes.
-    pub fn swap_cell(&mut self, key: &KeyRef<'_>, cell: &mut V, guess: &mut usize)
+    /// base. Searches near `guess` first, and sets `guess` to the place after the key. Returns whether the page holds a
+    /// cell at the key; if it does not, neither the page nor `cell` changes.
+    pub fn swap_cell(&mut self, key: &KeyRef<'_>, cell: &mut V, guess: &mut Guess) -> bool
         ensures cell { cell.new ≡ unwrap_or (holds self.old key.now) cell.old }
         ensures page { self.new ≡ exchanged self.old key.now cell.old }
+        ensures found { result ≡ is_some (holds self.old key.now) }
     {
-        match locate(&self.list, &self.runs, key) {
+        match locate_near(&self.list, &self.runs, key, &mut guess.in_list) {
             Some(locator) => locator.swap_cell(&mut self.runs, cell),
-            None => {
-                if let Some(at) = self.base.place_near(*guess, key.as_bytes()) {
-                    *guess = at.saturating_add(1);
+            None => match self.base.place_near(guess.in_base, key) {
+                Some(at) => {
+                    guess.in_base = at.saturating_add(1);
                     self.base.swap_cell(at, cell);
+                    true
                 }
-            }
+                None => false,
+            },
         }
     }
 

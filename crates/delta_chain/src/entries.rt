@@ -189,6 +189,7 @@ impl<T: Drop, A: Allocator + Copy> Entries<T, A> {
 
     // Sets the item at `key`: replaces the old item, or inserts a new entry. If allocation fails, the entries are
     // unchanged.
+    #[inline(always)]
     pub(crate) fn set(&mut self, key: Key<A>, item: T) -> Result<(), AllocError>
         ensures ok { OnOk result (self.new ≡ with_pair self.old key item) }
         ensures err { OnErr result (self.new ≡ self.old) }
@@ -206,6 +207,7 @@ impl<T: Drop, A: Allocator + Copy> Entries<T, A> {
 }
 
 impl<T: Drop, A: Allocator + Copy> KeptEntries<T, A> {
+    #[inline(never)]
     fn write(&mut self, at: usize, entry: (KeyWithWord<A>, T))
         requires { at < length (entries_kept self.old) }
         ensures { entries_kept self.new ≡ set (entries_kept self.old) at entry }
@@ -217,7 +219,30 @@ impl<T: Drop, A: Allocator + Copy> KeptEntries<T, A> {
     }
 
     // Inserts the entry at place `at`. If allocation fails, the entries are unchanged.
+    #[inline(always)]
     fn insert(&mut self, alloc: A, at: usize, entry: (KeyWithWord<A>, T)) -> Result<(), AllocError>
+        requires { at ≤ length (entries_kept self.old) }
+        ensures ok { OnOk result (entries_kept self.new ≡ insert (entries_kept self.old) at entry) }
+        ensures err { OnErr result (entries_kept self.new ≡ entries_kept self.old) }
+    {
+        if let KeptEntries::Many(list) = self {
+            if at == list.len() && at < list.capacity() {
+                list.push_reserved(entry);
+                return Ok(());
+            }
+        }
+        self.insert_within(alloc, at, entry)
+    }
+
+    // `insert` where a list has to be made or to grow, or where entries have to be moved. Not inlined, so that `insert`
+    // is, and most entries are written only once.
+    #[inline(never)]
+    fn insert_within(
+        &mut self,
+        alloc: A,
+        at: usize,
+        entry: (KeyWithWord<A>, T),
+    ) -> Result<(), AllocError>
         requires { at ≤ length (entries_kept self.old) }
         ensures ok { OnOk result (entries_kept self.new ≡ insert (entries_kept self.old) at entry) }
         ensures err { OnErr result (entries_kept self.new ≡ entries_kept self.old) }

@@ -1,13 +1,14 @@
 //! The trait of lists of rising keys.
-ghost use Rattle.std.specs.Prelude.{◌≡◌, ◌<◌, List, length, slice_get};
+ghost use Rattle.std.specs.Prelude.{◌≡◌, ◌<◌, List, Some, length, slice_get};
 ghost use Rattle.std.specs.Map.{keys_of};
 ghost use Rattle.keys.specs.Bytes.{Bytes};
-ghost use Rattle.keys.specs.Order.{AreRisingKeys};
+ghost use Rattle.keys.specs.Order.{order, AreRisingKeys};
 
 use crate::base::Base;
 use crate::run::Run;
 use keys::KeyRef;
 use std::alloc::Allocator;
+use std::cmp::Ordering;
 
 /// A list of strictly rising keys with access by place. Binary search is written once for all such lists.
 pub trait KeyList {
@@ -27,6 +28,11 @@ pub trait KeyList {
     fn key_ref(&self, at: usize) -> KeyRef<'_>
         requires { at < length (keys self.now) }
         ensures { slice_get (keys self.now) at ≡ Some result };
+
+    /// Compares the key at place `at`, counted from 0, to `key`.
+    fn compare_at(&self, at: usize, key: &KeyRef<'_>) -> Ordering
+        requires { at < length (keys self.now) }
+        ensures { (k : Bytes) → slice_get (keys self.now) at ≡ Some k → result ≡ order k key.now };
 }
 
 impl<V, A: Allocator + Copy> KeyList for Base<V, A> {
@@ -41,7 +47,12 @@ impl<V, A: Allocator + Copy> KeyList for Base<V, A> {
     }
 
     fn key_ref(&self, at: usize) -> KeyRef<'_> {
-        KeyRef::new(Base::key(self, at))
+        Base::key_ref(self, at)
+    }
+
+    #[inline]
+    fn compare_at(&self, at: usize, key: &KeyRef<'_>) -> Ordering {
+        Base::compare_at(self, at, key)
     }
 }
 
@@ -58,5 +69,10 @@ impl<V, A: Allocator + Copy> KeyList for Run<V, A> {
 
     fn key_ref(&self, at: usize) -> KeyRef<'_> {
         Run::key_ref(self, at)
+    }
+
+    #[inline]
+    fn compare_at(&self, at: usize, key: &KeyRef<'_>) -> Ordering {
+        Run::key_ref(self, at).compare(key)
     }
 }

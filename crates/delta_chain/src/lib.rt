@@ -18,8 +18,8 @@ mod run;
 
 pub use crate::base::Base;
 pub use crate::builder::{BaseBuilder, PushError};
-pub use crate::chain::{Chain, ChainRef, EntryBounds};
+pub use crate::chain::{Chain, ChainRef, EntryBounds, Guess};
 pub use crate::key_list::KeyList;
 pub use crate::late::LazyChain;
-pub use crate::pairs::{Pairs, copied_base};
+pub use crate::pairs::{Pairs, blank_base, copied_base};
 pub use crate::run::Run;

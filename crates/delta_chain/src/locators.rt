@@ -1,5 +1,5 @@
 //! Locates the newest change of each key that the runs of a page contain, by a list in key order.
-ghost use Rattle.std.specs.Prelude.{◌≡◌, ◌<◌, ◌≤◌, ◌^◌, ◌++◌, ◌∷◌, [], length, get_or, reverse, IfOk, OnOk, IfSome};
+ghost use Rattle.std.specs.Prelude.{◌≡◌, ◌<◌, ◌≤◌, ◌^◌, ◌++◌, ◌∷◌, [], length, get_or, is_some, reverse, IfOk, OnOk, OnErr, IfSome, ◌+◌, vec_len, vec_capacity, take, drop};
 ghost use Rattle.std.specs.List.{AllByRecursion};
 ghost use Rattle.std.specs.Map.{keys_of};
 ghost use Rattle.std.specs.Option.{option_copied, unwrap_or};
@@ -30,9 +30,15 @@ pub(crate) struct Locator {
 // The greatest number of a run, and the greatest place in a run, that a `Locator` can hold.
 const MOST: usize = u32::MAX as usize;
 
-// A page with more runs than this has no list. Only a forged disk has such pages. Each run makes a new list, so lists
-// would make the time to read n runs proportional to n * n.
+// A page with more runs than this has no list. Only a forged disk has such pages. Each run of more than a few changes
+// makes a new list, so lists would make the time to read n runs proportional to n * n.
 const LISTED_RUNS: usize = 64;
+
+// The changes of a run with at most this many are inserted into the list in place if there is room. Otherwise a new list
+// is made, which for a short run has room for some more runs of the same length.
+const FEW_CHANGES: usize = 8;
+
+const MORE_RUNS: usize = 3;
 
 impl Locator {
     fn new(key: &KeyRef<'_>, run: usize, at: usize) -> Locator
@@ -70,30 +76,35 @@ impl Locator {
         self.item(runs).as_ref()
     }
 
-    /// Swaps `cell` with the cell at this place of `runs`, unless the change there deletes its key. The runs are given
-    /// oldest first.
+    /// Swaps `cell` with the cell at this place of `runs`, unless the change there deletes its key. Returns whether there
+    /// is a cell. The runs are given oldest first.
     pub(crate) fn swap_cell<V: Drop, A: Allocator + Copy>(
         self,
         runs: &mut [Run<V, A>],
         cell: &mut V,
-    )
+    ) -> bool
         requires { IsIn (keys_of_runs runs.old) self }
         ensures cell { cell.new ≡ unwrap_or (change_at runs.old self) cell.old }
         ensures runs { runs.new
             ≡ exchanged_in runs.old self (in_place_of (change_at runs.old self) cell.old) }
+        ensures found { result ≡ is_some (change_at runs.old self) }
     {
-        runs[self.run as usize].swap_cell(self.at as usize, cell);
+        runs[self.run as usize].swap_cell(self.at as usize, cell)
     }
 
     // Compares the key at this place to `key`.
+    #[inline]
     fn compare<V, A: Allocator + Copy>(self, runs: &[Run<V, A>], key: &KeyRef<'_>) -> Ordering
         requires { IsIn (keys_of_runs runs.now) self }
         ensures { result ≡ order (key_at (keys_of_runs runs.now) self) key.now }
     {
-        match self.word.cmp(&key.word()) {
-            Ordering::Equal => compare(self.key(runs), key.as_bytes()),
-            apart => apart,
+        if self.word < key.word() {
+            return Ordering::Less;
         }
+        if self.word > key.word() {
+            return Ordering::Greater;
+        }
+        compare(self.key(runs), key.as_bytes())
     }
 }
 
@@ -112,6 +123,75 @@ pub(crate) fn locate<V, A: Allocator + Copy>(
     match list {
         Some(locators) => listed(locators, runs, key),
         None => newest_of(runs, key),
+    }
+}
+
+/// Locates the newest change of `key` as `locate` does, but searches near the place `guess` of the list first. Sets
+/// `guess` to the place after the locator of `key`, or to the place where it would be inserted.
+pub(crate) fn locate_near<V, A: Allocator + Copy>(
+    list: &Option<Vec<Locator, A>>,
+    runs: &[Run<V, A>],
+    key: &KeyRef<'_>,
+    guess: &mut usize,
+) -> Option<Locator>
+    requires numbered { AreNumbered (keys_of_runs runs.now) }
+    requires list { IfSome list.now (λ list. AreNewest (keys_of_runs runs.now) list.items) }
+    ensures value { result ≡ value_at key.now (newest_locators (reverse (keys_of_runs runs.now))) }
+    ensures place { IfSome result (λ l. IsIn (keys_of_runs runs.now) l
+        × (key_at (keys_of_runs runs.now) l ≡ key.now)) }
+{
+    match list {
+        Some(locators) => match search_near(locators, runs, *guess, key) {
+            Ok(at) => {
+                *guess = at.saturating_add(1);
+                Some(locators[at])
+            }
+            Err(at) => {
+                *guess = at;
+                None
+            }
+        },
+        None => newest_of(runs, key),
+    }
+}
+
+// `search`, which compares the locators at the place `guess` and right before it first.
+fn search_near<V, A: Allocator + Copy>(
+    locators: &[Locator],
+    runs: &[Run<V, A>],
+    guess: usize,
+    key: &KeyRef<'_>,
+) -> Result<usize, usize>
+    requires all { AllByRecursion (IsIn (keys_of_runs runs.now)) locators.now }
+    requires rising { IsRising (keyed (keys_of_runs runs.now) locators.now) }
+    ensures { IsSearched key.now (keyed (keys_of_runs runs.now) locators.now) result }
+{
+    let mut low = 0;
+    let mut high = locators.len();
+    while low < high {
+        let middle = near_place(guess, low, high);
+        match locators[middle].compare(runs, key) {
+            Ordering::Less => low = middle + 1,
+            Ordering::Equal => return Ok(middle),
+            Ordering::Greater => high = middle,
+        }
+    }
+    Err(low)
+}
+
+// The next place to compare, in `low..high`: the guess if it is in that range, the last place if the guess comes right
+// after the range, else the middle.
+fn near_place(guess: usize, low: usize, high: usize) -> usize
+    requires { low < high }
+    ensures from { low ≤ result }
+    ensures upto { result < high }
+{
+    if guess == high {
+        high - 1
+    } else if low <= guess && guess < high {
+        guess
+    } else {
+        low + (high - low) / 2
     }
 }
 
@@ -174,30 +254,102 @@ pub(crate) fn lent_changes<'a, V, A: Allocator + Copy>(
     Ok(Pairs::of_list(lent))
 }
 
-/// The list after `run` is put in front of `runs`. `Err` means that allocation failed.
-pub(crate) fn with_newest<V, A: Allocator + Copy>(
+/// Adds the changes of `run`, which is put in front of `runs`, to the list. `Err` means that allocation failed; the list
+/// is then unchanged. Few changes are inserted in place if the list has room for them.
+pub(crate) fn add_newest<V, A: Allocator + Copy>(
     alloc: A,
-    list: &Option<Vec<Locator, A>>,
+    list: &mut Option<Vec<Locator, A>>,
     runs: &[Run<V, A>],
     run: &Run<V, A>,
-) -> Result<Option<Vec<Locator, A>>, AllocError>
+) -> Result<(), AllocError>
     requires numbered { AreNumbered (keys_of_runs runs.now) }
-    requires list { IfSome list.now (λ list. AreNewest (keys_of_runs runs.now) list.items) }
+    requires list { IfSome list.old (λ list. AreNewest (keys_of_runs runs.now) list.items) }
     ensures numbered { OnOk result
         (AreNumbered (keys_of_runs runs.now ++ keys_of run.now ∷ [])) }
-    ensures list { IfOk result (λ list. IfSome list (λ list.
+    ensures ok { OnOk result (IfSome list.new (λ list.
         AreNewest (keys_of_runs runs.now ++ keys_of run.now ∷ []) list.items)) }
+    ensures err { OnErr result (IfSome list.new (λ list.
+        AreNewest (keys_of_runs runs.now) list.items)) }
 {
     // Counts as a failed allocation: hardly any memory has room for it.
     if runs.len() > MOST || run.len() > MOST {
         return Err(AllocError);
     }
+    if runs.len() >= LISTED_RUNS {
+        *list = None;
+        return Ok(());
+    }
     match list {
-        Some(locators) if runs.len() < LISTED_RUNS => {
-            let longer = merge_newest(alloc, locators, runs, run)?;
-            Ok(Some(longer))
-        }
-        _ => Ok(None),
+        Some(locators) => add_to(alloc, locators, runs, run),
+        None => Ok(()),
+    }
+}
+
+// `add_newest` to a list.
+fn add_to<V, A: Allocator + Copy>(
+    alloc: A,
+    locators: &mut Vec<Locator, A>,
+    runs: &[Run<V, A>],
+    run: &Run<V, A>,
+) -> Result<(), AllocError>
+    requires number { length runs.now < 2 ^ 32 }
+    requires places { length run.now ≤ 2 ^ 32 }
+    requires newest { AreNewest (keys_of_runs runs.now) locators.old.items }
+    ensures ok { OnOk result
+        (AreNewest (keys_of_runs runs.now ++ keys_of run.now ∷ []) locators.new.items) }
+    ensures err { OnErr result (locators.new ≡ locators.old) }
+{
+    let count = run.len();
+    if count <= FEW_CHANGES && count <= locators.capacity().saturating_sub(locators.len()) {
+        insert_newest(locators, runs, run);
+        return Ok(());
+    }
+    let merged = merge_newest(alloc, locators, runs, run)?;
+    *locators = merged;
+    Ok(())
+}
+
+// Inserts the locators of `run`, which is put in front of `runs`. The list has room for them.
+fn insert_newest<V, A: Allocator + Copy>(
+    locators: &mut Vec<Locator, A>,
+    runs: &[Run<V, A>],
+    run: &Run<V, A>,
+)
+    requires number { length runs.now < 2 ^ 32 }
+    requires places { length run.now ≤ 2 ^ 32 }
+    requires newest { AreNewest (keys_of_runs runs.now) locators.old.items }
+    requires room { vec_len locators.old + length run.now ≤ vec_capacity locators.old }
+    ensures { AreNewest (keys_of_runs runs.now ++ keys_of run.now ∷ []) locators.new.items }
+{
+    // The keys of the run rise, so each locator goes after the one before it.
+    let mut from = 0;
+    for at in 0..run.len() {
+        let key = run.key_ref(at);
+        let (below, above) = bounds_of(&locators[from..], runs, &key);
+        put(
+            locators,
+            from + below,
+            from + above,
+            Locator::new(&key, runs.len(), at),
+        );
+        from += below + 1;
+    }
+}
+
+// Replaces the locators from place `from` up to `until`, which are one or none, by `locator`. The list has room for it.
+fn put<A: Allocator>(locators: &mut Vec<Locator, A>, from: usize, until: usize, locator: Locator)
+    requires order { (from ≤ until) × (until ≤ from + 1) }
+    requires until { until ≤ length locators.old.items }
+    requires room { vec_len locators.old < vec_capacity locators.old }
+    ensures items { locators.new.items
+        ≡ take from locators.old.items ++ locator ∷ drop until locators.old.items }
+    ensures len { vec_len locators.new ≤ vec_len locators.old + 1 }
+    ensures capacity { vec_capacity locators.new ≡ vec_capacity locators.old }
+{
+    if from < until {
+        locators[from] = locator;
+    } else if locators.insert(from, locator).is_err() {
+        unreachable!()
     }
 }
 
@@ -215,10 +367,9 @@ fn merge_newest<V, A: Allocator + Copy>(
         AreNewest (keys_of_runs runs.now ++ keys_of run.now ∷ []) list.items) }
 {
     let count = run.len();
-    let Some(room) = locators.len().checked_add(count) else {
-        return Err(AllocError);
-    };
-    let mut merged = Vec::with_capacity(alloc, room)?;
+    let runs_to_come = if count > FEW_CHANGES { 0 } else { MORE_RUNS };
+    let room = count.saturating_mul(1 + runs_to_come);
+    let mut merged = Vec::with_capacity(alloc, locators.len().saturating_add(room))?;
     let mut rest = locators;
     for at in 0..count {
         let key = run.key_ref(at);
@@ -246,9 +397,28 @@ fn split<'a, V, A: Allocator + Copy>(
         ≡ keyed (keys_of_runs runs.now) result.0.now
         ++ (key.now, item) ∷ keyed (keys_of_runs runs.now) result.1.now }
 {
+    let (below, above) = bounds_of(locators, runs, key);
+    (&locators[..below], &locators[above..])
+}
+
+// How many locators are those of keys below `key`, and the place from which on they are those of keys above it.
+fn bounds_of<V, A: Allocator + Copy>(
+    locators: &[Locator],
+    runs: &[Run<V, A>],
+    key: &KeyRef<'_>,
+) -> (usize, usize)
+    requires all { AllByRecursion (IsIn (keys_of_runs runs.now)) locators.now }
+    requires rising { IsRising (keyed (keys_of_runs runs.now) locators.now) }
+    ensures order { (result.0 ≤ result.1) × (result.1 ≤ result.0 + 1) }
+    ensures most { result.1 ≤ length locators.now }
+    ensures apart { (item : Locator) →
+        with_pair (keyed (keys_of_runs runs.now) locators.now) key.now item
+        ≡ keyed (keys_of_runs runs.now) (take result.0 locators.now)
+        ++ (key.now, item) ∷ keyed (keys_of_runs runs.now) (drop result.1 locators.now) }
+{
     match search(locators, runs, key) {
-        Ok(at) => (&locators[..at], &locators[at + 1..]),
-        Err(at) => (&locators[..at], &locators[at..]),
+        Ok(at) => (at, at + 1),
+        Err(at) => (at, at),
     }
 }
 

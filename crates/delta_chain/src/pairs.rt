@@ -65,11 +65,7 @@ impl<'a, V: Cell<A> + Drop, A: Allocator + Copy> Pairs<'a, V, A> {
         requires { IsRising self.now }
         ensures { IfOk result (λ base. keys_of base ≡ keys_of self.now) }
     {
-        let mut builder = BaseBuilder::with_capacity(alloc, self.len(), key_bytes(&self.lent))?;
-        for at in 0..self.len() {
-            builder.push_next(self.key(at), V::blank(alloc))?;
-        }
-        Ok(builder.finish())
+        blank_base(alloc, &self.lent)
     }
 
     /// Returns a base with copies of the pairs. `Err` means that allocation failed.
@@ -79,6 +75,21 @@ impl<'a, V: Cell<A> + Drop, A: Allocator + Copy> Pairs<'a, V, A> {
     {
         copied_base(alloc, &self.lent)
     }
+}
+
+/// Returns a base with copies of the keys of `entries`, each with a blank cell. `Err` means that allocation failed.
+pub fn blank_base<V: Cell<A> + Drop, A: Allocator + Copy>(
+    alloc: A,
+    entries: &[(&[u8], &V)],
+) -> Result<Base<V, A>, AllocError>
+    requires { IsRising (pairs_lent entries.now) }
+    ensures { IfOk result (λ base. keys_of base ≡ keys_of (pairs_lent entries.now)) }
+{
+    let mut builder = BaseBuilder::with_capacity(alloc, entries.len(), key_bytes(entries))?;
+    for entry in entries {
+        builder.push_next(entry.0, V::blank(alloc))?;
+    }
+    Ok(builder.finish())
 }
 
 /// Returns a base with copies of `entries`. `Err` means that allocation failed.

@@ -1,5 +1,5 @@
 //! A run of changes to a page.
-ghost use Rattle.std.specs.Prelude.{◌≡◌, ◌<◌, ◌∷◌, ◌++◌, [], true, false, length, drop, slice_get, Option, Some, None, IfOk, IfSome, MatchOption, OnOk, OnErr, IsErrOf, ◌↔◌};
+ghost use Rattle.std.specs.Prelude.{◌≡◌, ◌<◌, ◌∷◌, ◌++◌, [], true, false, is_some, length, drop, slice_get, Option, Some, None, IfOk, IfSome, MatchOption, OnOk, OnErr, IsErrOf, ◌↔◌};
 ghost use Rattle.std.specs.Map.{keys_of, values_of};
 ghost use Rattle.std.specs.Option.{option_copied, unwrap_or};
 ghost use Rattle.keys.specs.Order.{IsRising};
@@ -124,17 +124,22 @@ impl<V, A: Allocator + Copy> Run<V, A> {
 }
 
 impl<V: Drop, A: Allocator + Copy> Run<V, A> {
-    // Swaps `cell` with the cell at place `at`, unless the change there deletes its key.
-    pub(crate) fn swap_cell(&mut self, at: usize, cell: &mut V)
+    // Swaps `cell` with the cell at place `at`, unless the change there deletes its key. Returns whether there is a cell.
+    pub(crate) fn swap_cell(&mut self, at: usize, cell: &mut V) -> bool
         requires { at < length self.old }
         ensures cell { (o : Option V) → slice_get (values_of self.old) at ≡ Some o →
             cell.new ≡ unwrap_or o cell.old }
         ensures run { (o : Option V) → slice_get (values_of self.old) at ≡ Some o →
             self.new ≡ exchanged_at self.old at (in_place_of o cell.old) }
+        ensures found { (o : Option V) → slice_get (values_of self.old) at ≡ Some o →
+            result ≡ is_some o }
     {
         if let Some(held) = self.changes.exchange(at, None) {
             let mine = mem::replace(cell, held);
             let _none = self.changes.exchange(at, Some(mine));
+            true
+        } else {
+            false
         }
     }
 
@@ -164,6 +169,7 @@ impl<V: Drop, A: Allocator + Copy> Run<V, A> {
 
     /// Sets the run's change of `key`: replaces the old change, or inserts a new one, so that keys may come in any
     /// order. If allocation fails, the change is dropped and the run is unchanged.
+    #[inline(always)]
     pub fn set(&mut self, key: Key<A>, change: Option<V>) -> Result<(), AllocError>
         ensures ok { OnOk result (self.new ≡ with_pair self.old key change) }
         ensures err { OnErr result (self.new ≡ self.old) }

@@ -83,16 +83,17 @@ read_as_word (a ∷ b ∷ c ∷ d ∷ e ∷ f ∷ []) l = absurd (omega arith)
 read_as_word (a ∷ b ∷ c ∷ d ∷ e ∷ f ∷ g ∷ []) l = absurd (omega arith)
 read_as_word (a ∷ b ∷ c ∷ d ∷ e ∷ f ∷ g ∷ h ∷ i ∷ us) l = absurd (omega arith)
 
--- each byte of a slice fits in eight bits
-abbrev Fit : List ℕ → Type 0
-Fit xs = (i : ℕ) → slice_index_or xs i 0 < 256
-
-first_are_bytes : (n : ℕ) (xs : List ℕ) → Fit xs → AreBytes (take n xs)
+first_are_bytes : (n : ℕ) (xs : List ℕ) → AreBytes xs → AreBytes (take n xs)
 first_are_bytes zero xs h = tt
 first_are_bytes (suc n) [] h = tt
-first_are_bytes (suc n) (x ∷ xs) h = (h 0, first_are_bytes n xs (λ i. h (suc i)))
+first_are_bytes (suc n) (x ∷ xs) h = (h.0, first_are_bytes n xs h.1)
 
-pub words_decide : (xs ys : List ℕ) → Fit xs → Fit ys → 8 ≤ length xs → 8 ≤ length ys →
+rest_are_bytes : (n : ℕ) (xs : List ℕ) → AreBytes xs → AreBytes (drop n xs)
+rest_are_bytes zero xs h = h
+rest_are_bytes (suc n) [] h = tt
+rest_are_bytes (suc n) (x ∷ xs) h = rest_are_bytes n xs h.1
+
+words_decide : (xs ys : List ℕ) → AreBytes xs → AreBytes ys → 8 ≤ length xs → 8 ≤ length ys →
     ordering_then (nat_cmp (from_be_bytes w64 (take 8 xs)) (from_be_bytes w64 (take 8 ys))) (order (drop 8 xs) (drop 8 ys)) ≡ order xs ys
 words_decide xs ys f g p q =
     let one : length (take 8 xs) ≡ 8 = length-take-le 8 xs p in
@@ -105,7 +106,7 @@ words_decide xs ys f g p q =
 
 -- a byte string that is cut into a word and what is after it
 pub record Cut (xs us ws : List ℕ) : Type 0 where
-  pub fit : Fit xs
+  pub bytes : AreBytes xs
   pub word : us ≡ take 8 xs
   pub following : ws ≡ drop 8 xs
   pub long : length ws + 8 ≡ length xs
@@ -119,20 +120,22 @@ cut_words_decide xs us ws ys vs zs n m c d p q =
     ∙ ap (λ k. ordering_then (nat_cmp (from_be_bytes w64 (take 8 xs)) k) (order ws zs)) other
     ∙ ap (λ l. ordering_then (nat_cmp (from_be_bytes w64 (take 8 xs)) (from_be_bytes w64 (take 8 ys))) (order l zs)) c.following
     ∙ ap (λ l. ordering_then (nat_cmp (from_be_bytes w64 (take 8 xs)) (from_be_bytes w64 (take 8 ys))) (order (drop 8 xs) l)) d.following
-    ∙ words_decide xs ys c.fit d.fit (omega (arith, c.long)) (omega (arith, d.long))
+    ∙ words_decide xs ys c.bytes d.bytes (omega (arith, c.long)) (omega (arith, d.long))
 
-decided : (o p : Ordering) → (o ≡ Equal → ⊥) → ordering_then o p ≡ o
-decided Less p f = refl
-decided Equal p f = absurd (f refl)
-decided Greater p f = refl
+pub rest_of_cut : (xs us ws : List ℕ) → Cut xs us ws → AreBytes ws
+rest_of_cut xs us ws c = subst (λ (l : List ℕ). AreBytes l) (sym c.following) (rest_are_bytes 8 xs c.bytes)
 
 pub same_words : (xs us ws ys vs zs : List ℕ) (n m : ℕ) → Cut xs us ws → Cut ys vs zs → n ≡ from_be_bytes w64 us → m ≡ from_be_bytes w64 vs →
-    nat_cmp n m ≡ Equal → order ws zs ≡ order xs ys
-same_words xs us ws ys vs zs n m c d p q e = ap (λ o. ordering_then o (order ws zs)) (sym e) ∙ cut_words_decide xs us ws ys vs zs n m c d p q
+    n ≡ m → order ws zs ≡ order xs ys
+same_words xs us ws ys vs zs n m c d p q e = ap (λ o. ordering_then o (order ws zs)) (sym (level n m e)) ∙ cut_words_decide xs us ws ys vs zs n m c d p q
 
-pub words_apart : (xs us ws ys vs zs : List ℕ) (n m : ℕ) → Cut xs us ws → Cut ys vs zs → n ≡ from_be_bytes w64 us → m ≡ from_be_bytes w64 vs →
-    (nat_cmp n m ≡ Equal → ⊥) → nat_cmp n m ≡ order xs ys
-words_apart xs us ws ys vs zs n m c d p q f = sym (decided (nat_cmp n m) (order ws zs) f) ∙ cut_words_decide xs us ws ys vs zs n m c d p q
+pub lesser_word : (xs us ws ys vs zs : List ℕ) (n m : ℕ) → Cut xs us ws → Cut ys vs zs → n ≡ from_be_bytes w64 us → m ≡ from_be_bytes w64 vs →
+    n < m → Less ≡ order xs ys
+lesser_word xs us ws ys vs zs n m c d p q l = ap (λ o. ordering_then o (order ws zs)) (sym (below n m l)) ∙ cut_words_decide xs us ws ys vs zs n m c d p q
+
+pub greater_word : (xs us ws ys vs zs : List ℕ) (n m : ℕ) → Cut xs us ws → Cut ys vs zs → n ≡ from_be_bytes w64 us → m ≡ from_be_bytes w64 vs →
+    m < n → Greater ≡ order xs ys
+greater_word xs us ws ys vs zs n m c d p q l = ap (λ o. ordering_then o (order ws zs)) (sym (above n m l)) ∙ cut_words_decide xs us ws ys vs zs n m c d p q
 
 -- ---- first words
 
@@ -169,18 +172,16 @@ words_tell_less (suc k) n (u ∷ us) (v ∷ vs) g h l = by (words_tell_less k (n
         let over : v < u = e in
         absurd (omega (arith, after_less k (n * 256 + v) (n * 256 + u) vs us h.1 (omega arith)))
 
+-- each byte of a slice fits in eight bits
+abbrev Fit : List ℕ → Type 0
+Fit xs = (i : ℕ) → slice_index_or xs i 0 < 256
+
 pub are_bytes : (xs : List ℕ) → Fit xs → AreBytes xs
 are_bytes [] h = tt
 are_bytes (x ∷ xs) h = (h 0, are_bytes xs (λ i. h (suc i)))
 
-pub order_by_words : (n m : ℕ) (us vs : List ℕ) → IsWordOf n us → IsWordOf m vs → (nat_cmp n m ≡ Equal → ⊥) → nat_cmp n m ≡ order us vs
-order_by_words n m us vs g h f = by (nat_cmp n m) refl (ranks n m)
-  where
-    by : (o : Ordering) → nat_cmp n m ≡ o → MatchOrdering o (n < m) (n ≡ m) (m < n) → nat_cmp n m ≡ order us vs
-    by Less p l =
-        let less : n < m = l in
-        p ∙ sym (words_tell_less 8 0 us vs g.1 h.1 (omega (arith, g.0, h.0)))
-    by Equal p l = absurd (f p)
-    by Greater p l =
-        let more : m < n = l in
-        p ∙ sym (flipped_less vs us (words_tell_less 8 0 vs us h.1 g.1 (omega (arith, g.0, h.0))))
+pub less_by_words : (n m : ℕ) (us vs : List ℕ) → IsWordOf n us → IsWordOf m vs → n < m → Less ≡ order us vs
+less_by_words n m us vs g h l = sym (words_tell_less 8 0 us vs g.1 h.1 (omega (arith, g.0, h.0)))
+
+pub greater_by_words : (n m : ℕ) (us vs : List ℕ) → IsWordOf n us → IsWordOf m vs → m < n → Greater ≡ order us vs
+greater_by_words n m us vs g h l = sym (flipped_less vs us (words_tell_less 8 0 vs us h.1 g.1 (omega (arith, g.0, h.0))))

@@ -53,6 +53,21 @@ impl<A: Allocator> KeptBytes<A> {
         }
     }
 
+    /// Returns an equal byte string. Allocates only if there are more than 23 bytes; `Err` if that fails.
+    #[inline]
+    pub(crate) fn copy(&self, alloc: A) -> Result<Self, AllocError>
+        ensures { IfOk result (λ kept. kept ≡ self.now) }
+    {
+        match &self.form {
+            Form::Short(short) => Ok(KeptBytes {
+                form: Form::Short(short.again()),
+            }),
+            Form::Long(long) => Ok(KeptBytes {
+                form: Form::Long(long.as_slice().to_vec(alloc)?),
+            }),
+        }
+    }
+
     #[inline]
     pub(crate) fn as_bytes(&self) -> &[u8]
         ensures { result.now ≡ self.now }

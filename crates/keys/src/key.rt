@@ -49,10 +49,13 @@ impl<A: Allocator + Copy> Key<A> {
     }
 
     /// Returns an equal key. Allocates only if the key is longer than 23 bytes; `Err` if that fails.
+    #[inline]
     pub fn copy(&self, alloc: A) -> Result<Self, AllocError>
         ensures { IfOk result (λ key. key ≡ self.now) }
     {
-        Key::from_bytes(alloc, self.as_bytes())
+        Ok(Key {
+            kept: self.kept.copy(alloc)?,
+        })
     }
 }
 

@@ -7,7 +7,7 @@ ghost use Rattle.std.specs.Cmp.Rules.{comparing};
 ghost use Rattle.std.specs.Ordering.{eq_by_cmp, as_partial_cmp};
 ghost use Rattle.keys.specs.Cells.{AreBytes};
 ghost use Rattle.keys.specs.Order.{order};
-ghost use Rattle.keys.specs.Words.{first_word};
+ghost use Rattle.keys.specs.Words.{first_word, IsWordOf};
 
 use crate::key::Key;
 use crate::order::compare;
@@ -46,6 +46,15 @@ impl<'a> KeyRef<'a> {
         }
     }
 
+    /// Wraps `bytes`, whose first word is known to be `word`.
+    #[inline]
+    pub fn of_word(word: u64, bytes: &'a [u8]) -> Self
+        requires { IsWordOf word bytes.now }
+        ensures { result ≡ bytes.entry.now }
+    {
+        KeyRef { word, bytes }
+    }
+
     /// Returns a copy of this reference.
     #[inline]
     pub fn again(&self) -> KeyRef<'a>
@@ -80,10 +89,14 @@ impl<'a> KeyRef<'a> {
     pub fn compare(&self, other: &KeyRef<'_>) -> Ordering
         ensures { result ≡ order self.now other.now }
     {
-        match self.word.cmp(&other.word) {
-            Ordering::Equal => compare(self.bytes, other.bytes),
-            apart => apart,
+        // Written with constants, because searches branch on the result: the compiler then needs no number for it.
+        if self.word < other.word {
+            return Ordering::Less;
         }
+        if self.word > other.word {
+            return Ordering::Greater;
+        }
+        compare(self.bytes, other.bytes)
     }
 }
 

@@ -12,16 +12,23 @@ use std::cmp::Ordering;
 pub fn compare(one: &[u8], other: &[u8]) -> Ordering
     ensures { result ≡ order one.now other.now }
 {
-    let (Some((word, rest)), Some((other_word, other_rest))) = (
-        one.split_first_chunk::<8>(),
-        other.split_first_chunk::<8>(),
-    ) else {
-        return compare_bytes(one, other);
-    };
-    match u64::from_be_bytes(*word).cmp(&u64::from_be_bytes(*other_word)) {
-        Ordering::Equal => compare(rest, other_rest),
-        apart => apart,
+    let mut left = one;
+    let mut right = other;
+    while let (Some((word, rest)), Some((other_word, other_rest))) = (
+        left.split_first_chunk::<8>(),
+        right.split_first_chunk::<8>(),
+    ) {
+        let (word, other_word) = (u64::from_be_bytes(*word), u64::from_be_bytes(*other_word));
+        if word < other_word {
+            return Ordering::Less;
+        }
+        if word > other_word {
+            return Ordering::Greater;
+        }
+        left = rest;
+        right = other_rest;
     }
+    compare_bytes(left, right)
 }
 
 /// Returns whether `key` is below `end`. Without an end, every key is.

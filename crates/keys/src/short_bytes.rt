@@ -57,6 +57,18 @@ impl ShortBytes {
         })
     }
 
+    /// Returns a copy. It is made by words, so it is cheaper than `from_bytes`.
+    #[inline]
+    pub(crate) fn again(&self) -> Self
+        ensures { result ≡ self.now }
+    {
+        ShortBytes {
+            words: [],
+            len: self.len,
+            places: self.places,
+        }
+    }
+
     #[inline]
     pub(crate) fn as_bytes(&self) -> &[u8]
         ensures { result.now ≡ self.now }

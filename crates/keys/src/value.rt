@@ -46,10 +46,13 @@ impl<A: Allocator + Copy> Value<A> {
     }
 
     /// Returns an equal value. Allocates only if the value is longer than 23 bytes; `Err` if that fails.
+    #[inline]
     pub fn copy(&self, alloc: A) -> Result<Self, AllocError>
         ensures { IfOk result (λ value. value ≡ self.now) }
     {
-        Value::from_bytes(alloc, self.as_bytes())
+        Ok(Value {
+            kept: self.kept.copy(alloc)?,
+        })
     }
 }
 

@@ -63,6 +63,7 @@ impl<A: Allocator + Copy> PageTable<A> {
 
     /// This and the next functions do what those of `Table` do, and record the pid if it may become due. Recording does
     /// not allocate.
+    #[inline]
     pub(crate) fn take(&mut self, pid: u64) -> Page<A>
         requires { IsSome (page_of self.old pid) }
         ensures page { page_of self.old pid ≡ Some result }
@@ -72,6 +73,7 @@ impl<A: Allocator + Copy> PageTable<A> {
         self.table.take(pid)
     }
 
+    #[inline]
     pub(crate) fn put(&mut self, pid: u64, page: Page<A>)
         requires { place_of self.old pid ≡ Some None }
         ensures { self.new ≡ with_place self.old pid (Some page) }

@@ -129,6 +129,7 @@ impl<P: Drop, A: Allocator + Copy> Table<P, A> {
     }
 
     /// Checks out the page of `pid`: removes it and leaves its place empty. Like `put` and `free`, does not allocate.
+    #[inline]
     pub fn take(&mut self, pid: u64) -> P
         requires { IsSome (page_of self.old pid) }
         ensures page { page_of self.old pid ≡ Some result }
@@ -142,6 +143,7 @@ impl<P: Drop, A: Allocator + Copy> Table<P, A> {
     }
 
     /// Puts a page into the empty place of `pid`.
+    #[inline]
     pub fn put(&mut self, pid: u64, page: P)
         requires { place_of self.old pid ≡ Some None }
         ensures { self.new ≡ with_place self.old pid (Some page) }

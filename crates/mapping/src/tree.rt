@@ -127,6 +127,7 @@ impl<A: Allocator + Copy> Tree<A> {
     }
 
     /// Checks out the page of `pid`: removes it and leaves its place empty. Like `put` and `free`, does not allocate.
+    #[inline]
     pub fn take(&mut self, pid: Pid) -> Page<A>
         requires { IsSome (page_of self.old.table pid) }
         ensures page { page_of self.old.table pid ≡ Some result }
@@ -136,6 +137,7 @@ impl<A: Allocator + Copy> Tree<A> {
     }
 
     /// Puts a page into the empty place of `pid`.
+    #[inline]
     pub fn put(&mut self, pid: Pid, page: Page<A>)
         requires { place_of self.old.table pid ≡ Some None }
         ensures { self.new ≡ record self.old { table = with_place self.old.table pid (Some page) } }

@@ -29,6 +29,11 @@ module _ {V : Type 0} where
       let held = value_at-entries_of p k a in
       rw (said, ← held) (ap (λ (t : Option (Option V)). change_or t (value_at k (entries_of p))) h)
 
+  -- without changes, the page has the value
+  pub unnamed_without : (p : Layers V) (run : List (List ℕ × Option V)) (k : List ℕ) → IsInOrder p → IsRising run → length run ≡ 0 → holds p k ≡ value_at k (with_run (entries_of p) run)
+  unnamed_without p [] k a r h = unnamed_now p [] k a r refl
+  unnamed_without p (c ∷ cs) k a r h = absurd (omega arith)
+
   -- the recorded change of a key that was put, added or deleted, if no allocation failed
   noted_put : (m : List (List ℕ × V)) (run : List (List ℕ × Option V)) (k : List ℕ) (v : V) → with_pair run k (Some v) ≡ noted (with_pair m k v) run k
   noted_put m run k v = rw (value_at-with_pair_here m k v) refl

@@ -1,11 +1,14 @@
 -- Commands that only read: how they are recognised, and that their net run is empty.
-use Rattle.std.specs.Prelude.{◌≡◌, ℕ, ◌+◌, Bool, true, false, ◌&&◌, List, [], ◌∷◌, drop, slice_get}
+use Rattle.std.specs.Prelude.{◌≡◌, ℕ, ◌+◌, Bool, true, false, ◌&&◌, List, [], ◌∷◌, drop, length, slice_get}
 use Rattle.std.proofs.Common.{refl, sym, ap, ◌∙◌}
-use Rattle.std.specs.Prelude.{Option, Some}
+use Rattle.std.specs.Prelude.{Option, Some, None}
+use Rattle.std.specs.Borrow.{Bor}
+use Rattle.std.specs.Slice.{IsItemAt}
 use Rattle.std.specs.declared.alloc.Global.{Global}
 use Rattle.std.proofs.lemmas.List.Folds.{list_all-append}
+use Rattle.std.proofs.lemmas.Option.{slice_get_past, slice_get_read}
 use Rattle.std.specs.List.{list_all}
-use Rattle.std.specs.Option.{option_to_list}
+use Rattle.std.specs.Option.{option_copied, option_to_list}
 use Rattle.keys.specs.Bytes.{Bytes}
 use Rattle.keys.specs.declared.command.Command.{Command}
 use Rattle.keys.specs.declared.piece.Piece.{Piece}
@@ -53,6 +56,11 @@ module _ {A : Type 0} where
     -- if it only reads, the later ones decide
     pub one_looks : said ≡ true → list_all is_read_only (commands_at batch (drop (i + 1) places)) ≡ list_all is_read_only (commands_at batch places)
     one_looks h = sym (ap (λ (b : Bool). b && list_all is_read_only (commands_at batch (drop (i + 1) places))) (sym here ∙ h)) ∙ sym (looks_from batch places i place next) ∙ so_far
+
+-- what `get` returns
+pub looked_up : {X : Type 0} (xs : List X) (i : ℕ) (r : Option (Bor X)) → IsItemAt xs i r → option_copied r ≡ slice_get xs i
+looked_up xs i None h = sym (slice_get_past xs i h.3)
+looked_up xs i (Some x) h = sym (slice_get_read xs (length xs) i x.now refl h.3.0 h.1)
 
 -- the replies of commands on the chain in memory of a leaf in the table are the answers of the route's page
 pub late_answers : (t : TreeInMemory) (batch : List (Command Global)) (r : Route) (pid : ℕ) (page : PageOfKind) (low : Bytes) (leaf : Lazy Bytes) (chain : Layers Bytes) (pieces : List (Piece Global))

@@ -78,12 +78,13 @@ impl Changes {
         requires { IsInOrder page.now }
         ensures { option_copied result ≡ value_at key.now (map_by_now page.now self.now) }
     {
-        // `len` is called only for the proof: its contract says that the keys rise.
+        // The contract of `len` says that the keys rise. For the map it is called only for that.
         match &self.kept {
             KeptChanges::Few(run) => {
-                let _rising = run.len();
-                if let Some(at) = run.place(key.as_bytes()) {
-                    return run.change(at);
+                if run.len() > 0 {
+                    if let Some(at) = run.place(key.as_bytes()) {
+                        return run.change(at);
+                    }
                 }
             }
             KeptChanges::Many(map) => {
@@ -130,6 +131,7 @@ impl Changes {
         self.set(alloc, key, change)
     }
 
+    #[inline(always)]
     pub(crate) fn set(
         &mut self,
         alloc: Global,
@@ -141,7 +143,9 @@ impl Changes {
         let room = self.writes.min(FEW);
         match &mut self.kept {
             KeptChanges::Few(run) => {
-                make_room(alloc, run, room)?;
+                if run.len() == 0 {
+                    make_room(alloc, run, room)?;
+                }
                 run.set(key, change)
             }
             KeptChanges::Many(map) => {
@@ -167,12 +171,12 @@ impl Changes {
 
 // Reserves room in an empty run. The run keeps this room as long as it is in front of the page, so it gets no more than
 // it can need, and at most `FEW`.
+#[inline(never)]
 fn make_room(alloc: Global, run: &mut LeafRun, room: usize) -> Result<(), AllocError>
+    requires { run.old ≡ [] }
     ensures { OnOk result (run.new ≡ run.old) }
 {
-    if run.len() == 0 {
-        *run = Run::with_capacity(alloc, room)?;
-    }
+    *run = Run::with_capacity(alloc, room)?;
     Ok(())
 }
 

@@ -1,4 +1,10 @@
 //! Counts the commands of each kind for one page.
+ghost use Rattle.std.specs.Prelude.{◌≡◌, true};
+ghost use Rattle.std.specs.List.{list_all};
+ghost use Rattle.std.specs.Option.{option_copied, option_to_list};
+ghost use Rattle.page_runs.specs.Reads.{is_read_only};
+ghost use Rattle.page_runs.specs.Replies.{commands_at};
+
 use keys::Command;
 use std::alloc::Global;
 
@@ -6,8 +12,8 @@ use std::alloc::Global;
 // without rows.
 const FEW_SCANS: usize = 16;
 
-/// How many commands of each kind there are for a page. Affects only how much room is reserved and how changes are
-/// stored, never the result.
+/// How many commands of each kind there are for a page. Affects only how much room is reserved, in which order commands
+/// are executed and how changes are stored, never the result.
 #[derive(Drop)]
 pub(crate) struct Kinds {
     gets: usize,
@@ -17,7 +23,10 @@ pub(crate) struct Kinds {
 }
 
 impl Kinds {
-    pub(crate) fn of(commands: &[Command<Global>], places: &[usize]) -> Self {
+    pub(crate) fn of(commands: &[Command<Global>], places: &[usize]) -> Self
+        ensures { result.writes ≡ 0 →
+            list_all is_read_only (commands_at commands.now places.now) ≡ true }
+    {
         let mut kinds = Kinds {
             gets: 0,
             scans: 0,
@@ -29,7 +38,10 @@ impl Kinds {
         kinds
     }
 
-    fn count(&mut self, command: Option<&Command<Global>>) {
+    fn count(&mut self, command: Option<&Command<Global>>)
+        ensures { self.new.writes ≡ 0 → (self.old.writes ≡ 0)
+            × (list_all is_read_only (option_to_list (option_copied command.entry)) ≡ true) }
+    {
         match command {
             Some(Command::Get(_)) => self.gets = self.gets.saturating_add(1),
             Some(Command::Scan(_, _, _)) => self.scans = self.scans.saturating_add(1),

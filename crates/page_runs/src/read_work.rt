@@ -105,7 +105,7 @@ pub fn is_only_read(commands: &[Command<Global>], page_run: &PageRun) -> bool
 }
 
 // Whether all commands at these places only read.
-pub(crate) fn are_all_read_only(commands: &[Command<Global>], places: &[usize]) -> bool
+fn are_all_read_only(commands: &[Command<Global>], places: &[usize]) -> bool
     ensures { result ≡ list_all is_read_only (commands_at commands.now places.now) }
 {
     for place in places {

@@ -16,7 +16,6 @@ use crate::changes::{Changes, LeafChain, LeafRun};
 use crate::kinds::Kinds;
 use crate::page_rows::{keys_within, rows_of};
 use crate::places::{are_points_by_key, sorted};
-use crate::read_work::are_all_read_only;
 use delta_chain::EntryBounds;
 use keys::{Command, Key, Piece, Pieces, Reply, RowList, Value};
 use routing::PageRun;
@@ -42,28 +41,30 @@ pub(crate) fn replay_run(
     // Only for the proof: the contract of `depth` says that the page is in order.
     let _in_order = page.depth();
     let places = page_run.places();
-    if are_all_read_only(commands, places) {
-        return replay(alloc, commands, page, places, false);
+    let kinds = Kinds::of(commands, places);
+    if kinds.writes == 0 {
+        return replay(alloc, commands, page, places, &kinds, false);
     }
     if are_points_by_key(commands, places) {
-        return replay(alloc, commands, page, places, true);
+        return replay(alloc, commands, page, places, &kinds, true);
     }
     if places.is_sorted() {
-        return replay(alloc, commands, page, places, false);
+        return replay(alloc, commands, page, places, &kinds, false);
     }
     let sorted = sorted(alloc, places)?;
-    replay(alloc, commands, page, &sorted, false)
+    replay(alloc, commands, page, &sorted, &kinds, false)
 }
 
 // Executes the commands at these places in this order. Returns their net run, the page's answer to each of them, and the
 // bounds on its number of entries afterwards: the old bounds, plus one for each reply that an entry was added, minus one
-// for each deleted entry, and minus the number of wiped ones. `by_key` tells whether the commands are on one key each and
-// in the order of their keys; it affects only the representation of the changes.
+// for each deleted entry, and minus the number of wiped ones. `kinds` counts the commands, and `by_key` tells whether they
+// are on one key each and in the order of their keys; both affect only the representation of the result.
 fn replay(
     alloc: Global,
     commands: &[Command<Global>],
     page: &LeafChain,
     places: &[usize],
+    kinds: &Kinds,
     by_key: bool,
 ) -> Result<(LeafRun, Pieces<Global>, EntryBounds), AllocError>
     requires { ArePlacesOf commands.now places.now }
@@ -74,7 +75,6 @@ fn replay(
     ensures fewest { IfOk result (λ r. r.2.fewest ≤ length (map_by_now page.now r.0)) }
     ensures most { IfOk result (λ r. min (length (map_by_now page.now r.0)) usize.MAX ≤ r.2.most) }
 {
-    let kinds = Kinds::of(commands, places);
     let mut pieces = Pieces::with_capacity(alloc, kinds.room())?;
     let mut changes = Changes::for_commands(alloc, kinds.writes, by_key);
     let bounds = execute_all(alloc, commands, page, places, &mut changes, &mut pieces)?;

@@ -1,7 +1,9 @@
 //! Counts comparisons of keys.
-ghost use Rattle.std.specs.Prelude.{◌≡◌, ◌+◌, ◌≤◌, min};
+ghost use Rattle.std.specs.Prelude.{◌≡◌, ◌+◌, ◌≤◌, ◌<◌, Some, min, length, slice_get};
+ghost use Rattle.keys.specs.Bytes.{Bytes};
 ghost use Rattle.keys.specs.Order.{order};
 
+use delta_chain::KeyList;
 use keys::KeyRef;
 use std::cmp::Ordering;
 use std::marker::Model;
@@ -44,5 +46,17 @@ impl Probes {
     {
         self.compared = self.compared.saturating_add(1);
         one.compare(other)
+    }
+
+    /// Compares the key at place `at` of the list to `key`, and counts the comparison.
+    #[inline]
+    pub fn compare_at<L: KeyList>(&mut self, list: &L, at: usize, key: &KeyRef<'_>) -> Ordering
+        requires { at < length (L.keys list.now) }
+        ensures order { (k : Bytes) → slice_get (L.keys list.now) at ≡ Some k → result ≡ order k key.now }
+        ensures counted { self.new ≡ min (self.old + 1) u64.MAX }
+        ensures kept { self.old ≤ self.new }
+    {
+        self.compared = self.compared.saturating_add(1);
+        list.compare_at(at, key)
     }
 }

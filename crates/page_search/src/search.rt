@@ -105,7 +105,7 @@ pub fn place<L: KeyList>(list: &L, key: &[u8], probes: &mut Probes) -> Result<us
     let mut high = list.len();
     while low < high {
         let middle = low + (high - low) / 2;
-        match probes.compare(&list.key_ref(middle), &key) {
+        match probes.compare_at(list, middle, &key) {
             Ordering::Less => low = middle + 1,
             Ordering::Equal => return Ok(middle),
             Ordering::Greater => high = middle,

@@ -1,9 +1,9 @@
 -- Lemmas on places in the order of their keys, for the proofs of this crate and of those above it.
-use Rattle.std.specs.Prelude.{◌≡◌, ℕ, ◌+◌, ◌<◌, Bool, true, false, List, [], ◌∷◌, map, length, nat_eq}
+use Rattle.std.specs.Prelude.{◌≡◌, ℕ, ◌+◌, ◌<◌, Bool, true, false, List, [], ◌∷◌, map, length, nat_eq, Some}
 use Rattle.std.proofs.Common.{refl, sym, ap, ◌∙◌, subst, arith, get_or, Ordering, Less, Equal, Greater, eqb-true, eq-eqb}
-use Rattle.std.specs.Ordering.{is_lt, is_eq, eq_by_cmp, nat_cmp, ordering_then}
+use Rattle.std.specs.Ordering.{is_lt, is_le, is_eq, is_some_and, eq_by_cmp, nat_cmp, ordering_then, partial_ordering_then}
 use Rattle.std.specs.Cmp.{IsTotalOrder}
-use Rattle.std.specs.List.{AllByRecursion, All, IsDistinct, list_any}
+use Rattle.std.specs.List.{AllAdjacentBelow, AllByRecursion, All, IsDistinct, list_any}
 use Rattle.std.specs.List.Sorted.{IsPermutation, IsSorted, IsStrictlySortedBy}
 use Rattle.std.proofs.lemmas.Cmp.{nat_cmp_total, on_total, then_total, tied_itself, ranked, eq_by_cmp_equiv}
 use Rattle.std.proofs.lemmas.List.{get_or-map, length-map}
@@ -16,6 +16,7 @@ use Rattle.keys.specs.declared.command.Command.{Command}
 use Rattle.mapping.specs.FreshPids.{is_among}
 use Rattle.routing.specs.Places.{places_below}
 use Rattle.routing.specs.BatchKeys.{key_at}
+use Rattle.routing.specs.Keyed.{Keyed}
 use Rattle.routing.specs.SortedPlaces.{order_of_places, AreInKeyOrder, AreSortedPlaces}
 use Rattle.routing.proofs.RouteLemmas.{rising-range}
 
@@ -153,3 +154,27 @@ module _ {A X : Type 0} (cs : List (Command A)) (key : X → List ℕ) (place : 
   -- and each still has its key
   pub keyed_sorted : (xs ys : List X) → AllByRecursion IsKeyed xs → IsPermutation xs ys → AllByRecursion IsKeyed ys
   keyed_sorted xs ys a p = recursion_from_All IsKeyed ys (All-permutation IsKeyed xs ys p (All-from_recursion IsKeyed xs a))
+
+-- ---- what `is_sorted` says of keys with their places
+
+abbrev pub compare_keyed : Keyed → Keyed → Ordering
+compare_keyed x y = ordering_then (order x.0 y.0) (nat_cmp x.1 y.1)
+
+total_keyed : IsTotalOrder compare_keyed
+total_keyed = then_total (on_total (λ (x : Keyed). x.0) total) (on_total (λ (x : Keyed). x.1) nat_cmp_total)
+
+then_partly : (o p : Ordering) → is_some_and is_le (partial_ordering_then (Some o) (Some p)) ≡ is_le (ordering_then o p)
+then_partly Less p = refl
+then_partly Equal p = refl
+then_partly Greater p = refl
+
+not_below_by : (o : Ordering) (x y : Keyed) → compare_keyed x y ≡ o → is_le o ≡ true → is_lt (compare_keyed y x) ≡ false
+not_below_by Less x y e h = rw (total_keyed.antisymm y x, e) refl
+not_below_by Equal x y e h = rw (total_keyed.antisymm y x, e) refl
+not_below_by Greater x y e h = absurd (cc)
+
+pub sorted_from_is_sorted : (xs : List Keyed) → AllAdjacentBelow (λ (x y : Keyed). is_some_and is_le (partial_ordering_then (Some (order x.0 y.0)) (Some (nat_cmp x.1 y.1))) ≡ true) xs (length xs) → IsSorted compare_keyed xs
+sorted_from_is_sorted xs h = λ k d from below.
+    let x = get_or xs k d in
+    let y = get_or xs (k + 1) d in
+    not_below_by (compare_keyed x y) x y refl (sym (then_partly (order x.0 y.0) (nat_cmp x.1 y.1)) ∙ h k d below)

@@ -3,6 +3,7 @@
 #![tactic(auto)]
 
 mod batch;
+mod buckets;
 mod descent;
 pub mod laws;
 mod page_run;

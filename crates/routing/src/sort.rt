@@ -9,6 +9,7 @@ ghost use Rattle.routing.specs.Keyed.{places_of, AreKeyed, has_key_below};
 ghost use Rattle.routing.specs.SortedPlaces.{AreSortedPlaces};
 
 use crate::batch::BatchWithEnds;
+use crate::buckets::sort_by_buckets;
 use keys::KeyRef;
 use rayon::prelude::*;
 use std::alloc::{AllocError, Global};
@@ -32,7 +33,7 @@ pub(crate) fn sorted_places<'a>(
     ensures keys { IfOk result (λ keyed. AreKeyed batch.now keyed.items) }
 {
     let mut keyed = keyed_places(rt, workers, alloc, batch, 0, batch.len())?;
-    sort_keyed(rt, workers, &mut keyed);
+    sort_keyed(rt, workers, alloc, &mut keyed);
     Ok(keyed)
 }
 
@@ -41,16 +42,22 @@ pub(crate) fn sharing(workers: usize, count: usize) -> usize {
     workers.min(count.div_ceil(LEAST_SHARED))
 }
 
-// Sorts by key, and equal keys by place.
-fn sort_keyed(rt: &(impl Threads + Sync), workers: usize, keyed: &mut [Keyed<'_>])
+// Sorts by key, and equal keys by place. A single worker first tries buckets.
+fn sort_keyed(rt: &(impl Threads + Sync), workers: usize, alloc: Global, keyed: &mut [Keyed<'_>])
     ensures permutation { IsPermutation keyed.old keyed.new }
     ensures len { length keyed.new ≡ length keyed.old }
     ensures sorted { IsSorted (λ x y. ordering_then (order x.0 y.0) (nat_cmp x.1 y.1)) keyed.new }
 {
-    if workers < 2 {
-        keyed.sort_unstable();
-    } else {
+    if keyed.is_sorted() {
+        return;
+    }
+    if workers > 1 {
         par_sort_unstable(rt, keyed);
+        return;
+    }
+    sort_by_buckets(alloc, keyed);
+    if !keyed.is_sorted() {
+        keyed.sort_unstable();
     }
 }
 

@@ -31,8 +31,8 @@ loop-at-init g c =
       rest = λ m q l h. refl;
     }
 
-pub key-requires : goal.key-requires
-key-requires g c =
+pub key_ref-requires : goal.key_ref-requires
+key_ref-requires g c =
     let first = rw c.in_ok-pairs.ensures.entries at c.in_ok-base.ensures in
     let made = length-keys c.in_ok-base.base (entries_of c.args.chain.now) first in
     let now = length-keys c.loop-at.base (entries_of c.args.chain.now) c.loop-at.invariant.keys in
@@ -48,17 +48,17 @@ exchange-blank-requires g c =
 pub loop-at-preserved : goal.loop-at-preserved
 loop-at-preserved g c =
     let was = c.args.chain.now in
-    let key : slice_get (keys_of (entries_of was)) c.loop-at.at ≡ Some c.new-key.result = rw (c.new-key.ensures, ← c.loop-at.invariant.keys) c.key.ensures in
-    let cell = found was c.loop-at.chain c.loop-at.at c.new-key.result c.depth.ensures.rising c.loop-at.invariant.rest key in
+    let key : slice_get (keys_of (entries_of was)) c.loop-at.at ≡ Some c.key_ref.result = rw (← c.loop-at.invariant.keys) c.key_ref.ensures in
+    let cell = found was c.loop-at.chain c.loop-at.at c.key_ref.result c.depth.ensures.rising c.loop-at.invariant.rest key in
     let moved : c.swap_cell.new.cell ≡ cell.0 = c.swap_cell.ensures.cell ∙ ap (λ (o : Option _). unwrap_or o c.blank-cell.result) cell.2 in
     let value : slice_get (values_of (entries_of was)) c.loop-at.at ≡ Some c.swap_cell.new.cell = rw moved cell.1 in
-    let held : holds c.loop-at.chain c.new-key.result ≡ Some c.swap_cell.new.cell = rw moved cell.2 in
+    let held : holds c.loop-at.chain c.key_ref.result ≡ Some c.swap_cell.new.cell = rw moved cell.2 in
     record {
       keys = rw c.exchange-blank.ensures.new (keys-exchanged_at c.loop-at.base c.loop-at.at c.swap_cell.new.cell ∙ c.loop-at.invariant.keys);
-      moved = rw (c.exchange-blank.ensures.new, add-one) (one_more c.loop-at.base (entries_of was) c.loop-at.at c.new-key.result c.swap_cell.new.cell c.loop-at.invariant.keys key value c.loop-at.invariant.moved);
-      back = rw (c.swap_cell.ensures.page, add-one) (back_one_more was c.loop-at.chain c.loop-at.at c.new-key.result c.blank-cell.result c.swap_cell.new.cell c.loop-at.invariant.order key value held c.loop-at.invariant.back);
-      order = rw c.swap_cell.ensures.page (rising-exchanged c.loop-at.chain c.new-key.result c.blank-cell.result c.loop-at.invariant.order);
-      rest = λ m q l h. rw c.swap_cell.ensures.page (holds_from was c.loop-at.chain c.loop-at.at c.new-key.result c.blank-cell.result c.depth.ensures.rising c.loop-at.invariant.order key c.loop-at.invariant.rest m q (omega arith) h);
+      moved = rw (c.exchange-blank.ensures.new, add-one) (one_more c.loop-at.base (entries_of was) c.loop-at.at c.key_ref.result c.swap_cell.new.cell c.loop-at.invariant.keys key value c.loop-at.invariant.moved);
+      back = rw (c.swap_cell.ensures.page, add-one) (back_one_more was c.loop-at.chain c.loop-at.at c.key_ref.result c.blank-cell.result c.swap_cell.new.cell c.loop-at.invariant.order key value held c.loop-at.invariant.back);
+      order = rw c.swap_cell.ensures.page (rising-exchanged c.loop-at.chain c.key_ref.result c.blank-cell.result c.loop-at.invariant.order);
+      rest = λ m q l h. rw c.swap_cell.ensures.page (holds_from was c.loop-at.chain c.loop-at.at c.key_ref.result c.blank-cell.result c.depth.ensures.rising c.loop-at.invariant.order key c.loop-at.invariant.rest m q (omega arith) h);
     }
 
 pub returns-clause-base : goal.returns-clause-base

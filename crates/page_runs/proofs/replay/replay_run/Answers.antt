@@ -1,4 +1,4 @@
-use Rattle.std.proofs.Common.{◌≡◌, Bool, true, List, ℕ, ◌∙◌, subst, sym}
+use Rattle.std.proofs.Common.{◌≡◌, true, List, ℕ, ◌∙◌, subst, sym}
 use Rattle.std.specs.declared.alloc.Global.{Global}
 use Rattle.std.specs.List.{list_all}
 use Rattle.std.specs.List.Sorted.{IsNonDecreasing, IsPermutation}
@@ -12,8 +12,8 @@ use Rattle.page_runs.specs.Replies.{commands_at}
 use Rattle.page_runs.proofs.KeyOrder.{same_pieces, same_pieces_in_order, same_pieces_of_reads, same_read_only, same_run, same_run_in_order, same_run_of_reads, within_permutation}
 use Rattle.page_runs.proofs.replay.replay_run.Goals as goal
 
-read_only : (cs : List (Command Global)) (ps qs : List ℕ) (said : Bool) → IsPermutation ps qs → said ≡ list_all is_read_only (commands_at cs qs) → said ≡ true → list_all is_read_only (commands_at cs ps) ≡ true
-read_only cs ps qs said same e h = same_read_only cs ps qs same ∙ sym e ∙ h
+read_only : (cs : List (Command Global)) (ps qs : List ℕ) → IsPermutation ps qs → list_all is_read_only (commands_at cs qs) ≡ true → list_all is_read_only (commands_at cs ps) ≡ true
+read_only cs ps qs same h = same_read_only cs ps qs same ∙ h
 
 sorted_places : (ps qs os : List ℕ) (result : List ℕ) → IsPermutation ps qs → IsPermutation qs os → result ≡ os → IsPermutation ps result
 sorted_places ps qs os result p q e = subst (λ (xs : List ℕ). IsPermutation ps xs) (sym e) (IsPermutation-trans ps qs os p q)
@@ -26,21 +26,21 @@ sorted_rising os result h e = subst (λ (xs : List ℕ). IsNonDecreasing xs) (sy
 pub replay-requires : goal.replay-requires
 replay-requires c = within_permutation c.args.commands.now c.args.page_run.now.places c.places-places.result.now c.places-places.ensures.same c.requires
 
-pub returns-then-are_all_read_only-clause-run : goal.returns-then-are_all_read_only-clause-run
-returns-then-are_all_read_only-clause-run c =
+pub returns-then-kinds-eq0-clause-run : goal.returns-then-kinds-eq0-clause-run
+returns-then-kinds-eq0-clause-run c =
     let cs = c.args.commands.now in
     let ps = c.args.page_run.now.places in
     let qs = c.places-places.result.now in
     let same = c.places-places.ensures.same in
-    IfOk-weaker c.replay.result _ _ (λ r e. e ∙ same_run_of_reads cs ps qs c.places-places.ensures.rising same c.requires (entries_of c.args.page.now) (read_only cs ps qs _ same c.are_all_read_only.ensures c.if-are_all_read_only.true)) c.replay.ensures.run
+    IfOk-weaker c.replay.result _ _ (λ r e. e ∙ same_run_of_reads cs ps qs c.places-places.ensures.rising same c.requires (entries_of c.args.page.now) (read_only cs ps qs same (c.of-kinds.ensures c.if-kinds-eq0.true))) c.replay.ensures.run
 
-pub returns-then-are_all_read_only-clause-pieces : goal.returns-then-are_all_read_only-clause-pieces
-returns-then-are_all_read_only-clause-pieces c =
+pub returns-then-kinds-eq0-clause-pieces : goal.returns-then-kinds-eq0-clause-pieces
+returns-then-kinds-eq0-clause-pieces c =
     let cs = c.args.commands.now in
     let ps = c.args.page_run.now.places in
     let qs = c.places-places.result.now in
     let same = c.places-places.ensures.same in
-    IfOk-weaker c.replay.result _ _ (λ r e. e ∙ same_pieces_of_reads cs ps qs c.places-places.ensures.rising same c.requires (entries_of c.args.page.now) (read_only cs ps qs _ same c.are_all_read_only.ensures c.if-are_all_read_only.true)) c.replay.ensures.pieces
+    IfOk-weaker c.replay.result _ _ (λ r e. e ∙ same_pieces_of_reads cs ps qs c.places-places.ensures.rising same c.requires (entries_of c.args.page.now) (read_only cs ps qs same (c.of-kinds.ensures c.if-kinds-eq0.true))) c.replay.ensures.pieces
 
 -- ---- on one key each, in the order of the keys
 

@@ -20,5 +20,5 @@ returns-in-Some g c =
 pub returns-in-None : goal.returns-in-None
 returns-in-None g c =
     let is = rw (c.deref.ensures.value, c.new-key.ensures) at c.in-None.ensures.value in
-    let cell = rw (c.as_bytes.ensures, c.new-key.ensures) at c.get.ensures in
+    let cell = rw c.new-key.ensures at c.get.ensures in
     rw (← c.self.view_is) (cell ∙ sym (held-missing c.self.inside.runs.items c.self.inside.base c.self.invariant.0.rising c.args.key.now is))

@@ -6,11 +6,14 @@ use Rattle.delta_chain.proofs.chain.Chain.prepend.Goals as goal
 pub invariant_of-self : goal.invariant_of-self
 invariant_of-self g c = rw c.make_room.ensures.kept c.self.invariant
 
-pub with_newest-requires-clause-list : goal.with_newest-requires-clause-list
-with_newest-requires-clause-list g c = rw (c.deref.ensures.value, c.make_room.ensures.kept) c.self.invariant.2
+pub add_newest-requires-clause-numbered : goal.add_newest-requires-clause-numbered
+add_newest-requires-clause-numbered g c = rw (c.deref.ensures.value, c.make_room.ensures.kept) c.self.invariant.1
 
-pub invariant_of-self-in-Err-with_newest : goal.invariant_of-self-in-Err-with_newest
-invariant_of-self-in-Err-with_newest g c = rw c.make_room.ensures.kept c.self.invariant
+pub add_newest-requires-clause-list : goal.add_newest-requires-clause-list
+add_newest-requires-clause-list g c = rw (c.deref.ensures.value, c.make_room.ensures.kept) c.self.invariant.2
+
+pub invariant_of-self-in-Err-add_newest : goal.invariant_of-self-in-Err-add_newest
+invariant_of-self-in-Err-add_newest g c = rw c.make_room.ensures.kept (c.self.invariant.0, c.self.invariant.1, rw (c.deref.ensures.value, c.make_room.ensures.kept) at c.in-Err-add_newest.ensures.err)
 
 pub invariant_of-self-2 : goal.invariant_of-self-2
 invariant_of-self-2 g c =
@@ -18,8 +21,8 @@ invariant_of-self-2 g c =
     let keys = keys_push c.self.inside.runs.items c.push_reserved.new.self.items c.args.run added in (
       counted-push c.self.inside.runs.items c.push_reserved.new.self.items c.args.run c.self.inside.base c.len.result c.self.inside.entries.fewest c.with_changes-self-inside.result.fewest c.self.inside.entries.most c.with_changes-self-inside.result.most
           added c.len.ensures.rising c.len.ensures.count c.with_changes-self-inside.ensures.fewest c.with_changes-self-inside.ensures.most c.self.invariant.0,
-      rw keys (rw (c.deref.ensures.value, c.make_room.ensures.kept) at c.in-Ok.ensures.numbered),
-      rw keys (rw (c.deref.ensures.value, c.make_room.ensures.kept) at c.in-Ok.ensures.list),
+      rw keys (rw (c.deref.ensures.value, c.make_room.ensures.kept) at c.in_default-add_newest.ensures.numbered),
+      rw keys (rw (c.deref.ensures.value, c.make_room.ensures.kept) at c.in_default-add_newest.ensures.ok),
     )
 
 pub returns-clause-ok : goal.returns-clause-ok

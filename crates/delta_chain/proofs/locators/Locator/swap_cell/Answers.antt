@@ -29,3 +29,10 @@ returns-clause-runs g c =
     let change = change_at runs l in
     let is = same_run runs l c.index-runs-self.result c.requires in
     exchanged_is runs l run is c.requires c.swap_cell.new.self (in_place_of change c.args.cell.now) (c.swap_cell.ensures.run change (item_is runs l run is c.requires))
+
+pub returns-clause-found : goal.returns-clause-found
+returns-clause-found g c =
+    let runs = c.args.runs.now in
+    let l = c.args.self in
+    let run = get_or runs l.run c.index-runs-self.result in
+    c.swap_cell.ensures.found (change_at runs l) (item_is runs l run (same_run runs l c.index-runs-self.result c.requires) c.requires)
