@@ -299,6 +299,28 @@ def wait_for_lock(programs: Programs) -> Outcome:
         return Outcome(wrong or (None if is_right and 0.9 <= seconds < 9 else f"{answers}, {is_waiting}, {ended}, {status}, {out!r}, {seconds:.1f} s"))
 
 
+def wait_for_another_file(programs: Programs) -> Outcome:
+    """--wait opens the file that is at the path in the end, even if it has waited for the lock of another one there."""
+    with new_folder() as folder:
+        path, larger = Path(folder) / "file", Path(folder) / "larger"
+        dialog = Dialog(programs.store, "--disk", path, "--create")
+        dialog.send(b"put a 1\nflush\n")
+        answers = [dialog.read_line(), dialog.read_line()]
+        made = run([programs.store, "--disk", larger, "--create"], b"put a 2\nflush\n")
+        waiting = PipedProgram([programs.store, "--disk", path, "--wait=60"])
+        waiting.send(b"get a\nput b 2\nflush\n")
+        waiting.input.close()
+        time.sleep(0.5)
+        is_waiting = waiting.process.poll() is None
+        larger.rename(path)
+        ended = dialog.finish()
+        out, status = waiting.output.read(), waiting.process.wait(PATIENCE)
+        held = run([programs.store, "--disk", path], b"get a\nget b\n")
+        wrong = differs(made, 0, b"new\nflushed 2\n") or differs(held, 0, b"value 2\nvalue 2\n")
+        is_right = (answers, is_waiting, ended, status, out) == ([b"new\n", b"flushed 2\n"], True, (0, b"", b""), 0, b"value 2\nnew\nflushed 3\n")
+        return Outcome(wrong or (None if is_right else f"{answers}, {is_waiting}, {ended}, {status}, {out!r}"))
+
+
 # Options, lines and answers of sessions that lock a file: before they read a line, or by a line.
 WAITING: list[tuple[tuple[str, ...], bytes, bytes]] = [
     (("--copy-to",), b"put a 1\n", b"new\n"),
@@ -352,5 +374,6 @@ def cases(programs: Programs) -> list[Case]:
         Case("damage that is explained", explain_damage, (programs,)),
         Case("a reader gives its lock up", read_without_lock, (programs,)),
         Case("--wait", wait_for_lock, (programs,)),
+        Case("--wait, and another file is put at the path", wait_for_another_file, (programs,)),
         *(Case(f"--wait for a new file, {number}", wait_for_new_file, (programs, number)) for number in range(len(WAITING))),
     ]

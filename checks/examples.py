@@ -298,8 +298,13 @@ def close(programs: Programs, name: str, closed: str) -> Outcome:
 
 # ---- The first programs of docs/EMBEDDING.md; checks/pages.py compares that page with their sources.
 
-STEPS = """new: {is_new}, flushed {number}
-[107, 101, 121] is [118, 97, 108, 117, 101]
+TOO_LONG = (
+    "A value is longer than the store allows. It is in command 0 of the batch, counted from 0. "
+    "Use a shorter value, or copy the store with a larger max_value in its settings."
+)
+STEPS = f"""new: {{is_new}}, flushed {{number}}
+refused: {TOO_LONG}
+key is value
 deleted: true, added: true, pairs: 1
 """
 

@@ -2,7 +2,7 @@
 
    input, output, error         a read of standard input, a write to standard output, to standard error
    open                         opening the file FAIL_FILE for writing; those that follow are calls on this file, also by a duplicated descriptor:
-   hold, share, length          its exclusive lock, its shared lock, asking for its length
+   hold, share, length          its exclusive lock, its shared lock, asking for its length and identity
    cut, read, write, sync       setting its length, a read, a write, a sync
    thread                       starting a thread: this ends the program with FAIL_ERROR as its status
 

@@ -11,7 +11,7 @@ use crate::disk::{Base, LastError, ReportingDisk, StoreDisk, StoreFile};
 use crate::notes::Source;
 use crate::progress::{Event, LongCall, Observer};
 use crate::session::{Result, SessionError};
-use engine::{Disk, FileDisk, LockFile, MemDisk, Store};
+use engine::{Disk, FileDisk, LockFile, MemDisk, Store, admit_file};
 use flush_log::disk_size;
 use keys::Fault;
 use std::fs::{OpenFile, OpenOptions};
@@ -37,10 +37,6 @@ pub fn store_fault(fault: Fault) -> SessionError
     }
 }
 
-fn lock<F: LockFile>(file: &F, writes: bool) -> io::Result<()> {
-    if writes { file.hold() } else { file.share() }
-}
-
 fn release<F: StoreFile + Drop>(held: Option<F>) -> io::Result<()> {
     match held {
         Some(file) => file.release(),
@@ -52,27 +48,28 @@ impl<'a, R: Files + Clock, P: Observer> Session<'a, R, P>
 where
     R::File: LockFile,
 {
-    fn lock_in_time<F: LockFile>(&self, file: &F, writes: bool) -> io::Result<()> {
+    /// Opens a file for reading, and for writing if `writes`, and locks it: exclusively if
+    /// `writes`, and shared otherwise. If `creates`, creates a missing file. If another program has
+    /// locked the file, tries again for about as many seconds as `--wait` gives, and then fails
+    /// with `WouldBlock`. Each try opens the file again, because another one may be at the path.
+    pub fn open_locked(&self, path: &str, writes: bool, creates: bool) -> io::Result<R::File> {
         for _try in 0..TRIES * u64::from(self.calls.mode.wait) {
-            match lock(file, writes) {
+            match self.try_open(path, writes, creates) {
                 Err(error) if error.kind() == ErrorKind::WouldBlock => {
                     thread::sleep(self.calls.rt, Duration::from_millis(PAUSE));
                 }
                 done => return done,
             }
         }
-        lock(file, writes)
+        self.try_open(path, writes, creates)
     }
 
-    /// Opens a file for reading, and for writing if `writes`, and locks it: exclusively if
-    /// `writes`, and shared otherwise. If `creates`, creates a missing file. If another program has
-    /// locked the file, tries again for about as many seconds as `--wait` gives, and then fails
-    /// with `WouldBlock`.
-    pub fn open_locked(&self, path: &str, writes: bool, creates: bool) -> io::Result<R::File> {
+    fn try_open(&self, path: &str, writes: bool, creates: bool) -> io::Result<R::File> {
         let mut how = OpenOptions::new();
         how.read(true).write(writes).create(creates);
         let file = how.open(self.calls.rt, path)?;
-        self.lock_in_time(&file, writes)?;
+        if writes { file.hold() } else { file.share() }?;
+        admit_file(self.calls.rt, &file, path)?;
         Ok(file)
     }
 }

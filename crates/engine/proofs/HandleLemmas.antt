@@ -1,5 +1,5 @@
 -- The calls of a handle: what one that executes one command says, by the batch that it makes, and the reply that a token finds.
-use Rattle.std.specs.Prelude.{◌≡◌, ◌+◌, ◌-◌, ◌^◌, ◌≤◌, ℕ, zero, suc, ⊤, Bool, true, false, not, is_some, if◌then◌else◌, List, [], ◌∷◌, length, take, drop, slice_get, Option, Some, None, Result, Ok, Err, MatchOption}
+use Rattle.std.specs.Prelude.{◌≡◌, ◌+◌, ◌-◌, ◌^◌, ◌≤◌, ℕ, zero, suc, ⊤, Bool, true, false, not, is_some, if◌then◌else◌, List, [], ◌∷◌, length, take, drop, slice_get, Option, Some, None, Result, Ok, Err, MatchOption, OnOk, OnErr}
 use Rattle.std.proofs.Common.{refl, sym, ap, ◌∙◌, subst, inl, inr}
 use Rattle.std.specs.declared.alloc.Global.{Global}
 use Rattle.keys.specs.Bytes.{Bytes, Pairs}
@@ -16,6 +16,7 @@ use Rattle.keys.proofs.MapLemmas.{order_itself}
 use Rattle.flush_log.specs.Disk.{View}
 use Rattle.mapping.specs.Levels.{contents}
 use Rattle.engine.specs.Batch.{IsLaterFault}
+use Rattle.engine.specs.Compacted.{IsCompacted}
 use Rattle.engine.specs.Durable.{contents_after}
 use Rattle.engine.specs.Handle.{IsCall, pairs_after_all, pairs_left}
 use Rattle.engine.specs.OneStep.{IsBatch}
@@ -240,3 +241,10 @@ pub token_reply : {A : Type 0} (m : Pairs Bytes) (cs : List (Command A)) (token 
 token_reply m [] token c h = absurd (cc)
 token_reply {A = A} m (d ∷ cs) zero c h = (let same : d ≡ c = cc in ap (λ (x : Command A). Some (reply_to m x)) same)
 token_reply m (d ∷ cs) (suc token) c h = token_reply (map_after m d) cs token c h
+
+-- ---- a compaction
+
+-- whether the store was compacted or not, it has the same pairs
+pub compacted_or_not : {D : Type 0} (old new : State D) (r : Result ℕ Fault) → OnOk r (IsCompacted old.settings old.store new.store) → OnErr r (new ≡ old) → contents new.store.tree ≡ contents old.store.tree
+compacted_or_not old new (Ok pages) done unchanged = done.holds
+compacted_or_not old new (Err fault) done unchanged = ap (λ x. contents x.store.tree) unchanged

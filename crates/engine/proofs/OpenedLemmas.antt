@@ -1,6 +1,6 @@
 -- The result of opening a store on a disk.
-use Rattle.std.specs.Prelude.{◌≡◌, ◌⊎◌, ℕ, ◌+◌, ◌-◌, ◌^◌, min, ◌≤◌, false, IsTrue, IfOk, Result, Ok, Err}
-use Rattle.std.proofs.Common.{sym, ap, subst, ◌∙◌, inl, inr, ⊎_elim}
+use Rattle.std.specs.Prelude.{◌≡◌, ◌≢◌, ◌⊎◌, ℕ, ◌+◌, ◌-◌, ◌^◌, min, ◌≤◌, Bool, true, false, IsTrue, IfOk, Result, Ok, Err, MatchResult}
+use Rattle.std.proofs.Common.{refl, sym, ap, subst, ◌∙◌, inl, inr, ⊎_elim}
 use Rattle.keys.specs.Bytes.{Bytes}
 use Rattle.keys.specs.declared.fault.Fault.{Fault}
 use Rattle.keys.specs.declared.fault.Fault.TheVariants.{Device}
@@ -14,13 +14,15 @@ use Rattle.flush_log.specs.Segments.{disk_size}
 use Rattle.flush_log.specs.Slot.{Slot}
 use Rattle.flush_log.specs.declared.slot.LogEnds.{LogEnds}
 use Rattle.flush_log.proofs.SettingsLemmas.{store_settings-are}
+use Rattle.flush_log.proofs.SameLemmas.{settled_still}
 use Rattle.flush_log.proofs.ViewLemmas.{counted_failed}
 use Rattle.recovery.specs.InStep.{IsInStep, IsStoreOf}
-use Rattle.recovery.specs.Recovered.{IsLate, IsReadOf}
+use Rattle.recovery.specs.Recovered.{IsLate, IsReadOf, OnlyReads, store_recovered}
 use Rattle.recovery.specs.StoreOfDisk.{store_of_disk}
-use Rattle.recovery.proofs.ReadBytes.{first_read}
+use Rattle.recovery.specs.declared.recovered.Recovered.{Recovered}
+use Rattle.recovery.proofs.ReadBytes.{first_read, kept_then}
 use Rattle.recovery.proofs.StoreLemmas.{StandsBy, store-stands}
-use Rattle.engine.specs.Opened.{IsOpened, disk_left}
+use Rattle.engine.specs.Opened.{IsOpened, IsOpenedOn, disk_left, read_on}
 use Rattle.engine.specs.State.{IsSound, IsSoundStore, State, store_in}
 use Rattle.engine.proofs.CreateLemmas.{slot_with, opened-is}
 
@@ -98,3 +100,74 @@ leaves_still a b c step run same = record {
 pub settled_where : {D : Type 0} (view : D → View) (r : Result (State D) (Fault × D)) → IsSynced (view (disk_left r)) → IfOk r (λ opened. IsSynced (view opened.disk))
 settled_where view (Ok opened) is_synced = is_synced
 settled_where view (Err refused) is_synced = tt
+
+-- ---- a disk that is synced and then read
+
+module _ {D : Type 0} (view : D → View) (failures : D → ℕ) (old mid new : D)
+    (law : (s : Settings) (st : Store) (file : Bytes) → store_of_disk file ≡ Ok (s, st) → IsStoreOf s st file)
+    (kept : Kept (view old) (view mid)) (counted : failures mid ≡ failures old) (is_synced : IsTrue (view old).is_honest → IsSynced (view mid))
+    (seen : IsTrue (view old).is_honest → (view mid).seen ≡ (view old).seen)
+    (crash : IsTrue (view old).is_honest → Leaves (view old) (view mid) (λ before c. c ≡ before)) where
+  pub read-synced : (r : Result Recovered Fault) (file : Bytes) → IsReadOf (view mid) file
+      → MatchResult r (λ found. (store_of_disk file ≡ Ok (found.settings, store_recovered found)) × AreAllHome found.tree) (λ fault. (store_of_disk file ≡ Err fault) ⊎ IsLate (failures mid) (failures new) fault)
+      → OnlyReads view failures mid new r → IsOpenedOn view failures true old (read_on r new)
+  read-synced (Ok found) file read reported only =
+      let still = λ (honest : IsTrue (view old).is_honest). only.same (is_synced honest).honest in
+      record {
+        bad_crew = λ bad. absurd (cc);
+        read = λ _. (file, read_earlier (view old) (view mid) file kept seen read, reported.0);
+        honest = λ _ honest. subst (λ (f : Bytes). store_of_disk f ≡ read_as found.settings (store_recovered found)) (read.honest (is_synced honest).honest ∙ seen honest) reported.0;
+        fine = refl;
+        seen = λ honest. (still honest).seen ∙ seen honest;
+        is_synced = λ honest. settled_still (view mid) (view new) only.kept (still honest) (is_synced honest);
+        crash = λ honest. leaves_still (view old) (view mid) (view new) (λ b a. a ≡ b) (crash honest) (still honest);
+        kept = kept_then (view old) (view mid) (view new) kept only.kept;
+        counted = only.counted ∙ counted;
+        uncounted = tt;
+        sound = opened-sound view found.settings (store_recovered found) mid new file read reported.0 only.kept only.same law;
+      }
+  read-synced (Err fault) file read reported only =
+      let still = λ (honest : IsTrue (view old).is_honest). only.same (is_synced honest).honest in
+      let late = subst (λ (n : ℕ). (store_of_disk file ≡ Err fault) ⊎ IsLate n (failures new) fault) counted reported in
+      record {
+        bad_crew = λ bad. absurd (cc);
+        read = λ _. (file, read_earlier (view old) (view mid) file kept seen read, late);
+        honest = λ _ honest. subst (λ (f : Bytes). (store_of_disk f ≡ Err fault) ⊎ IsLate (failures old) (failures new) fault) (read.honest (is_synced honest).honest ∙ seen honest) late;
+        fine = tt;
+        seen = λ honest. (still honest).seen ∙ seen honest;
+        is_synced = λ _. tt;
+        crash = λ honest. leaves_still (view old) (view mid) (view new) (λ b a. a ≡ b) (crash honest) (still honest);
+        kept = kept_then (view old) (view mid) (view new) kept only.kept;
+        counted = tt;
+        uncounted = λ other. only.uncounted other ∙ counted;
+        sound = tt;
+      }
+
+-- the pages of what was read are in the table
+pub read_home : (r : Result Recovered Fault) (P : Recovered → Type 0) (Q : Fault → Type 0) → MatchResult r (λ found. P found × AreAllHome found.tree) Q → IfOk r (λ found. AreAllHome found.tree)
+read_home (Ok found) P Q is = is.1
+read_home (Err fault) P Q is = tt
+
+-- ---- a store that is opened again in place
+
+abbrev opened_as : {D : Type 0} → Settings → Store → D → Result (State D) (Fault × D)
+opened_as s st disk = Ok (record { settings = s; store = st; disk = disk; has_failed = false })
+
+pub reopened-store : {D : Type 0} (view : D → View) (failures : D → ℕ) (old new : D) (s : Settings) (tree : TreeInMemory) (slot : Slot) (log : LogEnds) (root height : ℕ) (version : Version)
+    → slot_with log root height version ≡ slot → IsOpenedOn view failures true old (opened_as s (store_after (tree_of tree) slot) new)
+    → IsOpenedOn view failures true old (opened_as s (store_in tree log version) new)
+reopened-store view failures old new s tree slot log root height version kept_as opened =
+    subst (λ (st : Store). IsOpenedOn view failures true old (opened_as s st new)) (sym (opened-is tree slot log root height version kept_as)) opened
+
+-- a store that was not opened again is still sound
+pub unopened-sound : {D : Type 0} (view : D → View) (s : Settings) (st : Store) (old new : D) (had has : Bool) (fault : Fault)
+    → IsSound view (record { settings = s; store = st; disk = old; has_failed = had }) → Kept (view old) (view new) → (IsTrue (view old).is_honest → (view new).seen ≡ (view old).seen)
+    → ((fault ≡ Device) × (has ≡ true)) ⊎ ((fault ≢ Device) × (has ≡ had)) → IsSound view (record { settings = s; store = st; disk = new; has_failed = has })
+unopened-sound view s st old new had has fault was keeps seen why = record {
+  is = was.is;
+  room = subst (λ (n : ℕ). disk_size s ≤ n) (sym keeps.size) was.room;
+  step = λ none still. (
+      let honest = subst IsTrue keeps.honest still in
+      let fine : had ≡ false = ⊎_elim (λ yes. (let bad = yes.1 in absurd (cc))) (λ no. sym no.1 ∙ none) why in
+      subst (λ (f : Bytes). IsInStep s st f) (sym (seen honest)) (was.step fine honest));
+}

@@ -77,6 +77,11 @@ abbrev pub contents_after : Pairs Bytes → List (Command Global) → Unwritten 
 contents_after m cs (Undone fault) = m
 contents_after m cs (InDoubt fault) = map_after_all m cs
 
+-- the fault of a batch that is not durable
+abbrev pub fault_of : Unwritten → Fault
+fault_of (Undone fault) = fault
+fault_of (InDoubt fault) = fault
+
 -- ---- the flush and the undo commands
 
 -- After a flush was refused with this fault, the undo commands were executed; or they were not, because a call of the disk had failed, or because they

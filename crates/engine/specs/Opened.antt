@@ -1,10 +1,11 @@
 -- The result of opening a store on a disk.
-use Rattle.std.specs.Prelude.{◌≡◌, ◌≢◌, ◌⊎◌, ℕ, Bool, IsTrue, false, Result, Ok, Err, MatchResult, IfOk, IfErr}
+use Rattle.std.specs.Prelude.{◌≡◌, ◌≢◌, ◌⊎◌, ℕ, Bool, IsTrue, true, false, Result, Ok, Err, MatchResult, IfOk, IfErr}
 use Rattle.keys.specs.Bytes.{Bytes}
 use Rattle.keys.specs.declared.fault.Fault.{Fault}
 use Rattle.keys.specs.declared.fault.Fault.TheVariants.{BadCrew, Device}
 use Rattle.flush_log.specs.Disk.{View, IsSynced, Kept, Leaves}
-use Rattle.recovery.specs.Recovered.{IsLate, IsReadOf}
+use Rattle.recovery.specs.Recovered.{IsLate, IsReadOf, store_recovered}
+use Rattle.recovery.specs.declared.recovered.Recovered.{Recovered}
 use Rattle.recovery.specs.StoreOfDisk.{store_of_disk}
 use Rattle.engine.specs.State.{State, IsSound}
 
@@ -35,3 +36,22 @@ pub record IsOpenedOn {D : Type 0} (view : D → View) (failures : D → ℕ) (a
   pub counted : IfOk result (λ opened. failures opened.disk ≡ failures disk)
   pub uncounted : IfErr result (λ e. e.0 ≢ Device → failures e.1 ≡ failures disk)
   pub sound : IfOk result (λ opened. IsSound view opened)
+
+-- ---- a store that is opened again in place
+
+-- the store of what was read of a disk, on this disk; or the fault and the disk
+abbrev pub read_on : {D : Type 0} → Result Recovered Fault → D → Result (State D) (Fault × D)
+read_on (Ok found) disk = Ok (record { settings = found.settings; store = store_recovered found; disk = disk; has_failed = false })
+read_on (Err fault) disk = Err (fault, disk)
+
+-- the store after a call that opened it in place; or the fault and the store's disk
+abbrev pub left_in_place : {D : Type 0} → Result Unit Fault → State D → Result (State D) (Fault × D)
+left_in_place (Ok done) now = Ok now
+left_in_place (Err fault) now = Err (fault, now.disk)
+
+-- A store was opened on its own disk; or it was not, and then only its disk and whether it has failed may have changed.
+pub record IsReopened {D : Type 0} (view : D → View) (failures : D → ℕ) (old : State D) (result : Result Unit Fault) (now : State D) : Type 0 where
+  pub opened : IsOpenedOn view failures true old.disk (left_in_place result now)
+  pub refused : IfErr result (λ fault. (now.settings ≡ old.settings) × (now.store ≡ old.store))
+  -- after a failed call of the disk the store has failed, and after any other fault only if it had failed before
+  pub has_failed : IfErr result (λ fault. ((fault ≡ Device) × (now.has_failed ≡ true)) ⊎ ((fault ≢ Device) × (now.has_failed ≡ old.has_failed)))

@@ -10,7 +10,9 @@ pub fn meaning(fault: &Fault) -> &'static str {
         Fault::BadSettings(_) => "A setting is out of range.",
         Fault::KeyTooLong(_) => "A key is longer than the store allows.",
         Fault::ValueTooLong(_) => "A value is longer than the store allows.",
-        Fault::BatchTooLong => "The batch has more than 65535 commands.",
+        Fault::BatchTooLong => {
+            "The batch has more than 65535 commands, or as many are needed to undo it."
+        }
         Fault::BadCrew => "The number of workers or the grain is out of range.",
         Fault::NoMemory => "There was not enough memory.",
         Fault::Failed => "The disk failed in an earlier call.",
@@ -30,19 +32,26 @@ pub fn meaning(fault: &Fault) -> &'static str {
     }
 }
 
-/// Returns what to do about a fault, in a sentence, or an empty string if there is no advice.
+/// Returns what to do about a fault, in one or two sentences, or an empty string if there is no advice.
 pub fn remedy(fault: &Fault) -> &'static str {
     match fault {
         Fault::BadSettings(_) =>
             "A segment has to hold a full page of the longest keys and values.",
+        Fault::KeyTooLong(_) => {
+            "Use a shorter key, or copy the store with a larger max_key in its settings."
+        }
+        Fault::ValueTooLong(_) => {
+            "Use a shorter value, or copy the store with a larger max_value in its settings."
+        }
         Fault::BadCrew => "There are 1 to 64 workers, and the grain is 1 to 65535.",
-        Fault::BatchTooLong => "Divide it.",
+        Fault::BatchTooLong => "Divide the batch.",
         Fault::NoMemory => "Smaller batches need less.",
         Fault::Failed | Fault::Device => {
-            "Open the store again: it is that of the last flush, or of the one that failed."
+            "Open the store again. It then has the pairs of the last flush that succeeded, or of the flush that failed."
         }
         Fault::Full => {
-            "Clean the log. If too much data lives, copy the store to a disk with more segments."
+            "Clean the log, as the flush of a handle does by itself. If it stays full, copy the store to a disk with more \
+            segments."
         }
         _ => "",
     }
@@ -60,13 +69,32 @@ pub fn file_remedy(reason: &io::Error) -> &'static str {
     }
 }
 
-/// Displays a fault in words: what it means, and what to do about it.
+// Writes what a fault means, with its setting, its command or its place in the log.
+fn write_meaning<W: fmt::Write>(fault: &Fault, f: &mut fmt::Formatter<W>) -> fmt::Result {
+    let meaning = meaning(fault);
+    match fault {
+        Fault::BadSettings(field) => write!(f, "The setting {field} is out of range."),
+        Fault::KeyTooLong(place) | Fault::ValueTooLong(place) => {
+            write!(
+                f,
+                "{meaning} It is in command {place} of the batch, counted from 0."
+            )
+        }
+        Fault::BadSegment(_) | Fault::BadFrame(_, _) | Fault::BadStructure(_) => {
+            write!(f, "{meaning} The damage is {fault}.")
+        }
+        _ => f.write_str(meaning),
+    }
+}
+
+/// Displays a fault in words: what it means, which setting or command of the batch it is about, and what to do about
+/// it.
 #[derive(Drop)]
 pub struct ExplainedFault<'a>(pub &'a Fault);
 
 impl<'a> fmt::Display for ExplainedFault<'a> {
     fn fmt<W: fmt::Write>(&self, f: &mut fmt::Formatter<W>) -> fmt::Result {
-        f.write_str(meaning(self.0))?;
+        write_meaning(self.0, f)?;
         let remedy = remedy(self.0);
         if remedy.is_empty() {
             return Ok(());

@@ -20,9 +20,10 @@ use std::alloc::Global;
 use std::error::Error;
 use std::fs::{OpenFile, OpenOptions};
 use std::io::{ErrorKind, Read, Seek, Write};
+use std::os::unix::fs::MetadataExt;
 use std::rt::Files;
 use std::thread::Threads;
-use std::{fmt, io};
+use std::{fmt, fs, io};
 
 /// Why the store in a file was not opened.
 #[derive(Debug, Drop)]
@@ -251,6 +252,40 @@ where
     settings.check()?;
     let mut how = OpenOptions::new();
     how.read(true).write(true).create(true);
-    let disk = FileDisk::of_file(how.open(rt, path)?)?;
+    let disk = open_disk(rt, path, &how, false)?;
     store_of(rt, crew, disk, settings)
+}
+
+// Opens the file and tries to lock it, for itself or shared with other readers.
+pub(crate) fn open_disk<R: Files>(
+    rt: &R,
+    path: &str,
+    how: &OpenOptions,
+    is_shared: bool,
+) -> io::Result<FileDisk<R::File>>
+where
+    R::File: LockFile,
+{
+    let file = how.open(rt, path)?;
+    if is_shared {
+        file.share()?;
+        admit_file(rt, &file, path)?;
+        FileDisk::of_shared(file)
+    } else {
+        file.hold()?;
+        admit_file(rt, &file, path)?;
+        FileDisk::of_file(file)
+    }
+}
+
+/// Fails with `ErrorKind::WouldBlock`, as a lock that another program has, if another file is at the path than this one.
+/// Call it after `file` was locked: while a program waits for a lock, the one that has it may put a larger copy of the
+/// store at the path, and what was then written to the old file would be lost.
+pub fn admit_file<R: Files, F: OpenFile>(rt: &R, file: &F, path: &str) -> io::Result<()> {
+    let (locked, named) = (file.metadata()?, fs::metadata(rt, path)?);
+    if locked.dev() == named.dev() && locked.ino() == named.ino() {
+        Ok(())
+    } else {
+        Err(ErrorKind::WouldBlock.into())
+    }
 }

@@ -1,5 +1,5 @@
 //! A store with the arguments of its calls, and with the number of its pairs.
-ghost use Rattle.std.specs.Prelude.{◌≡◌, [], true, false, not, is_some, if◌then◌else◌, length, drop, reverse, slice_get, Err, IfOk, IfErr, MatchOption, OnOk, OnErr};
+ghost use Rattle.std.specs.Prelude.{◌≡◌, ◌-◌, [], true, false, not, is_some, if◌then◌else◌, length, drop, reverse, slice_get, Err, IfOk, IfErr, MatchOption, OnOk, OnErr};
 ghost use Rattle.std.specs.Option.{option_copied, option_map};
 ghost use Rattle.keys.specs.OrderedMap.{value_at, with_pair, without};
 ghost use Rattle.keys.specs.Range.{in_range, out_of_range};
@@ -9,10 +9,13 @@ ghost use Rattle.mapping.specs.Levels.{contents};
 ghost use Rattle.scan.specs.Prefix.{with_prefix};
 ghost use Rattle.engine.specs.Bounds.{pairs_within};
 ghost use Rattle.engine.specs.Cleaning.{IsFlushedCleaning, IsStart, IsStoppedCleaning};
+ghost use Rattle.engine.specs.Compacted.{IsCompactFault, IsCompacted};
 ghost use Rattle.engine.specs.Handle.{IsCall, IsMade};
 ghost use Rattle.engine.specs.OneStep.{IsBatch};
+ghost use Rattle.engine.specs.Opened.{IsReopened};
 ghost use Rattle.engine.specs.Refusal.{is_crew};
-ghost use Rattle.engine.specs.State.{State};
+ghost use Rattle.engine.specs.State.{IsOnlyInMemory, State};
+ghost use Rattle.engine.specs.Tidied.{IsTidied, IsTidyFault, counted_pages};
 
 mod batch;
 mod durable;
@@ -39,11 +42,11 @@ use std::thread::Threads;
 /// Writes change the map in memory. Only `flush` and `execute_durable` make writes durable, and all earlier writes with
 /// them; dropping a handle does not flush.
 ///
-/// After an `Err` of any call but `flush` and `execute_durable` the map is unchanged. The writes `put`, `add`, `del`,
-/// `wipe`, `pop_first` and `execute` fail with:
+/// After an `Err` of any call but `execute_durable` the map in memory is unchanged; `Unwritten` says what
+/// `execute_durable` leaves. The writes `put`, `add`, `del`, `wipe`, `pop_first` and `execute` fail with:
 ///
 /// - `Fault::NoMemory` if an allocation fails;
-/// - `Fault::Failed` if a call of the disk failed in an earlier flush or clean;
+/// - `Fault::Failed` if a call of the disk failed in an earlier flush, clean, upgrade or `reopen`;
 /// - `Fault::KeyTooLong` or `Fault::ValueTooLong` if a key, a bound or a value is longer than the settings allow, with
 ///   the place of the command in the batch, which is 0 for a call that takes one command;
 /// - `Fault::Spent` if the tree would have more than 64 levels.
@@ -75,7 +78,8 @@ impl<D: Disk> Store<D> {
     /// the pages.
     ///
     /// Fails with `Fault::BadCrew` if the crew is out of range, and otherwise with `Fault::NoMemory` if an allocation
-    /// fails. The store is returned with the fault.
+    /// fails. The store is returned with the fault. In a function that returns a `Fault`, `?` takes the fault and drops
+    /// the store. In a function with another error, such as `anyhow::Error`, write `.map_err(|e| e.0)?`.
     pub fn with<R: Threads + Sync>(
         self,
         rt: &R,
@@ -167,7 +171,8 @@ impl<'r, R: Threads + Sync, D: Disk> Handle<'r, R, D> {
         Ok(wiped_count(&reply))
     }
 
-    /// Deletes the pair with the least key and returns it, or returns `None` if the map is empty.
+    /// Deletes the pair with the least key and returns it, or returns `None` if the map is empty. `as_bytes` gives the
+    /// bytes of both.
     pub fn pop_first(&mut self) -> Result<Option<(Key<Global>, Value<Global>)>, Fault>
         ensures answer { IfOk result
             (λ popped. popped ≡ slice_get (contents self.old.store.tree) 0) }
@@ -186,7 +191,9 @@ impl<'r, R: Threads + Sync, D: Disk> Handle<'r, R, D> {
     }
 
     /// Executes the commands of the batch in order, all or none, and returns the replies, which are found by the tokens
-    /// of the batch. A batch of more than 65,535 commands fails with `Fault::BatchTooLong`.
+    /// of the batch. A batch of more than 65,535 commands fails with `Fault::BatchTooLong`. Even a batch that only reads
+    /// needs `&mut self`, because the type of a batch does not say whether it writes; `get`, `range` and the other reads
+    /// take `&self`.
     pub fn execute(&mut self, batch: &Batch) -> Result<Replies, Fault>
         ensures { IsBatch D.view true self.old batch.now result (λ replies. replies) self.new }
     {
@@ -199,8 +206,9 @@ impl<'r, R: Threads + Sync, D: Disk> Handle<'r, R, D> {
     /// after many writes.
     ///
     /// After an `Err` the map in memory is unchanged. After `Fault::Full` the log is too small for the store: copy the
-    /// store to a larger disk. After `Fault::Device` the store has failed: reads still work, and `into_store` with
-    /// `Store::reopen` returns the store of the last flush or of this one.
+    /// store to a larger disk. After `Fault::Device` the store has failed: reads still work, and `reopen` then gives the
+    /// map of the last flush that succeeded, or of this one. If the disk is a `FileDisk`, `store().disk().last_error()`
+    /// returns the system's reason.
     pub fn flush(&mut self) -> Result<u64, Fault>
         ensures number { IfOk result (λ n. n ≡ self.new.store.sequence) }
         ensures flushed { IfOk result (λ _. (start : State D) × IsStart self.old start
@@ -217,6 +225,60 @@ impl<'r, R: Threads + Sync, D: Disk> Handle<'r, R, D> {
         ensures contents { contents self.new.store.tree ≡ contents self.old.store.tree }
     {
         self.store.flush_cleaning(self.rt, self.crew)
+    }
+
+    /// Merges up to `most` leaves that deletes have left with few pairs, and returns by how many pages the store has
+    /// shrunk. The map is unchanged, and nothing is written before the next flush. Does what `Store::tidy` does, with
+    /// the same costs and the same faults, except for `Fault::BadCrew`.
+    pub fn tidy(&mut self, most: usize) -> Result<u64, Fault>
+        ensures contents { contents self.new.store.tree ≡ contents self.old.store.tree }
+        ensures tidied { IsTidied self.old.settings self.old.store self.new.store }
+        ensures pages { IfOk result (λ count.
+            count ≡ counted_pages self.old.store.tree - counted_pages self.new.store.tree) }
+        ensures rest { IsOnlyInMemory self.old self.new }
+        ensures failed { self.old.has_failed ≡ true →
+            (result ≡ Err Fault.Failed) × (self.new ≡ self.old) }
+        ensures refused { self.old.has_failed ≡ false →
+            IfErr result (IsTidyFault self.old.settings) }
+    {
+        self.store.tidy(self.rt, self.crew, most)
+    }
+
+    /// Rebuilds the store's pages from its pairs, with as few leaves as they need, and returns by how many pages the
+    /// store has shrunk, or 0 if it has grown. The map is unchanged, and nothing is written before the next flush, which
+    /// writes every page: flush before this call, because that flush may fail with `Fault::Full`. Does what
+    /// `Store::compact` does, with the same costs and the same faults, except for `Fault::BadCrew`.
+    pub fn compact(&mut self) -> Result<u64, Fault>
+        ensures contents { contents self.new.store.tree ≡ contents self.old.store.tree }
+        ensures compacted { OnOk result
+            (IsCompacted self.old.settings self.old.store self.new.store) }
+        ensures pages { IfOk result (λ count.
+            count ≡ counted_pages self.old.store.tree - counted_pages self.new.store.tree) }
+        ensures rest { IsOnlyInMemory self.old self.new }
+        ensures unchanged { OnErr result (self.new ≡ self.old) }
+        ensures failed { self.old.has_failed ≡ true →
+            (result ≡ Err Fault.Failed) × (self.new ≡ self.old) }
+        ensures refused { self.old.has_failed ≡ false →
+            IfErr result (IsCompactFault self.old.settings self.old.store.tree) }
+    {
+        self.store.compact(self.rt, self.crew)
+    }
+
+    /// Replaces the map in memory by the one on the disk, as `Store::reopen` does: the map of the last flush or upgrade
+    /// that succeeded, or, if one failed with `Fault::Device`, possibly the map that it was writing. Writes that were
+    /// not flushed are lost. Use it to continue with a store that has failed, or to drop writes that were not flushed.
+    /// Counts the pairs by a walk over them. The pages in memory are freed after those on the disk were read, so for a
+    /// time both are in memory.
+    ///
+    /// Fails like `Store::open`, except for `Fault::BadCrew`: with `Fault::Device` if a call of the disk fails, with
+    /// `Fault::NoMemory`, or with the fault of a disk that has no store or a damaged one. After an `Err` the map in
+    /// memory is unchanged, and after `Fault::Device` the store has failed. So this call can be tried again.
+    pub fn reopen(&mut self) -> Result<(), Fault>
+        ensures { IsReopened D.view D.failed self.old result self.new }
+    {
+        self.store.reopen_in_place(self.rt, self.crew)?;
+        self.pairs = self.store.count(..);
+        Ok(())
     }
 
     fn execute_one(&mut self, command: Command<Global>) -> Result<Reply<Global>, Fault>
@@ -265,7 +327,8 @@ impl<'r, R, D: Disk> Handle<'r, R, D> {
         Batch::new(self.alloc())
     }
 
-    /// Returns the value at the key, if there is one, borrowed from its page.
+    /// Returns the value at the key, if there is one, borrowed from its page. A key that is longer than the settings
+    /// allow is absent.
     pub fn get(&self, key: &[u8]) -> Option<&[u8]>
         ensures { option_copied result ≡ value_at key.now (contents self.now.store.tree) }
     {

@@ -11,7 +11,7 @@ ghost use Rattle.engine.specs.Opening.{HasOpenFault, IsFaultOfStore, IsOpenedBy,
 ghost use Rattle.engine.specs.declared.options.Access.TheVariants.{Existing};
 
 use crate::explain::ExplainedOpenFault;
-use crate::file_store::{DiskOfFile, OpenFault, new_store, store_of, with_reason};
+use crate::file_store::{DiskOfFile, OpenFault, new_store, open_disk, store_of, with_reason};
 use crate::handle::Handle;
 use crate::refusal::admit_crew;
 use crate::store::Store;
@@ -335,16 +335,24 @@ impl Access {
     where
         R::File: LockFile,
     {
+        let is_shared = matches!(self, Access::ReadOnly);
+        open_disk(rt, path, &self.how(), is_shared)
+    }
+
+    fn how(self) -> OpenOptions {
+        let mut how = OpenOptions::new();
+        how.read(true);
         match self {
-            Access::ReadOnly => FileDisk::open_shared(rt, path),
-            Access::Existing => FileDisk::open(rt, path),
+            Access::ReadOnly => {}
+            Access::Existing => {
+                how.write(true);
+            }
             Access::Create(creation, _) => {
                 let is_new = matches!(creation, Creation::New);
-                let mut how = OpenOptions::new();
-                how.read(true).write(true).create(true).create_new(is_new);
-                FileDisk::of_file(how.open(rt, path)?)
+                how.write(true).create(true).create_new(is_new);
             }
         }
+        how
     }
 }
 
@@ -411,10 +419,12 @@ where
 }
 
 /// Creates the file at this path, and returns a disk of zeros in it, which is large enough for a store with these
-/// settings. Use it with `copy_to`, for a backup that replaces no file:
+/// settings. Use it with `copy_to`, for a backup that replaces no file. In a function that returns `anyhow::Result`:
 ///
 ///     let disk = create_disk(rt, "backup.store", &settings)?;
-///     store.copy_to(rt, Crew::default(), disk, settings)?;
+///     store
+///         .copy_to(rt, Crew::default(), disk, settings)
+///         .map_err(|e| e.0)?;
 ///
 /// Fails with `Fault::BadSettings` and the first field that is out of range; no file was created then. Otherwise fails
 /// with the reason why the file cannot be created, for example because there is a file at the path, which is left as it

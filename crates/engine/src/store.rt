@@ -45,6 +45,10 @@ use verify::Report;
 ///
 /// After a call of the disk has failed in a flush, an upgrade or a clean, every later batch, flush, upgrade and clean
 /// fails with `Fault::Failed`.
+///
+/// A call that takes a disk or the store itself returns it with the fault, as `Err((fault, disk))`. In a function that
+/// returns a `Fault`, `?` takes the fault and drops the disk. In a function with another error, such as `anyhow::Error`,
+/// write `.map_err(|e| e.0)?`.
 #[derive(Drop)]
 pub struct Store<D: Disk> {
     settings: Settings,

@@ -1,5 +1,5 @@
 //! Batches that are built command by command, and their replies.
-ghost use Rattle.std.specs.Prelude.{◌≡◌, ◌+◌, ◌-◌, ◌^◌, ◌<◌, ◌≤◌, min, [], slice_get, false, None, IfOk, MatchOption, OnErr};
+ghost use Rattle.std.specs.Prelude.{◌≡◌, ◌==◌, ◌+◌, ◌-◌, ◌^◌, ◌<◌, ◌≤◌, min, [], length, slice_get, false, None, IfOk, MatchOption, OnErr};
 ghost use Rattle.std.specs.Option.{option_copied};
 ghost use Rattle.keys.specs.declared.command.Command.TheVariants.{Get, Put, Add, Del, Scan, Wipe};
 ghost use Rattle.engine.specs.Tokens.{IsAdded, is_new, most_rows, row_limit, was_deleted, value_of, rows_of, wiped_count};
@@ -71,6 +71,29 @@ impl Batch {
         &self.commands
     }
 
+    /// Returns the number of commands.
+    pub fn len(&self) -> usize
+        ensures { result ≡ length self.now }
+    {
+        self.commands.len()
+    }
+
+    /// Returns whether the batch has no commands.
+    pub fn is_empty(&self) -> bool
+        ensures { result ≡ (length self.now == 0) }
+    {
+        self.commands.is_empty()
+    }
+
+    /// Removes all commands, so that the batch can be built again without another allocation for its list. A token of a
+    /// removed command then finds the reply to the command that is later added at the same place.
+    pub fn clear(&mut self)
+        ensures { self.new ≡ [] }
+    {
+        self.commands.clear();
+        self.rows = 0;
+    }
+
     /// Returns how many rows the replies to the batch may have together: the sum of the limits of its scans, or
     /// `u64::MAX` if the sum is larger. Takes constant time.
     pub fn most_rows(&self) -> u64
@@ -139,8 +162,9 @@ impl Batch {
         self.push(command)
     }
 
-    /// Adds a scan as `scan` does, if the replies to the batch may then have at most `budget` rows together, as
-    /// `most_rows` counts them. Otherwise returns `None`, and the batch is unchanged. Rows are copied when the batch is
+    /// Adds a scan as `scan` does, if the sum of the limits of all scans of the batch (`most_rows`), including this
+    /// one, is at most `budget`. Otherwise returns `None`, and the batch is unchanged: the scan is left out, not
+    /// shortened. The sum counts limits, not the rows that the scans will find. Rows are copied when the batch is
     /// executed, so a budget limits the memory and the time that the scans of a batch take.
     pub fn scan_within(
         &mut self,
@@ -287,7 +311,8 @@ impl Replies {
         }
     }
 
-    /// Returns the pairs that a `Command::Scan` found, in key order.
+    /// Returns the pairs that a `Command::Scan` found, in key order: `for (key, value) in rows` iterates over slices of
+    /// bytes.
     pub fn rows(&self, token: Token) -> Option<&RowList<Global>>
         ensures { MatchOption (slice_get self.now token) (result ≡ None)
             (λ reply. option_copied result ≡ rows_of reply) }

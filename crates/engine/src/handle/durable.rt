@@ -22,8 +22,11 @@ impl<'r, R: Threads + Sync, D: Disk> Handle<'r, R, D> {
     ///
     /// After `Unwritten::Undone` the map is as before the call, and nothing of the batch is read or becomes durable
     /// later. After `Unwritten::InDoubt` the map has the batch in memory: with `Fault::Device` the store has failed, and
-    /// after `into_store`, `Store::reopen` returns the store of the last flush or of this one; with any other fault a
-    /// later flush makes the batch durable.
+    /// `reopen` gives the map of the last flush that succeeded, or of this one; with any other fault a later flush makes
+    /// the batch durable.
+    ///
+    /// A batch whose undo commands would be more than 65,535 is refused, with `Undone` and `Fault::BatchTooLong`. Each
+    /// pair that a wipe deletes is one of them, so delete many pairs by `wipe` and `flush`, or in parts.
     pub fn execute_durable(&mut self, batch: &Batch) -> Result<Replies, Unwritten>
         // The replies are those of an ordered map, and the contents are those of the map after or before the batch.
         ensures replies { IfOk result (λ replies.

@@ -203,7 +203,8 @@ impl<D: Disk> Store<D> {
     /// for a pair that is too long for the new settings, with its place in its batch of 4,096 puts; `Fault::NoMemory`; `Fault::Spent`, where
     /// the tree would have more than 64 levels; `Fault::Full`, where the pairs have no room in the new log; and `Fault::Device`, where a call
     /// of the new disk failed. After an `Err` the other disk is handed back: as it was, or without a store; after
-    /// `Fault::Device` it may hold the whole copy, too.
+    /// `Fault::Device` it may hold the whole copy, too. In a function that returns a `Fault`, `?` takes the fault and drops the disk. In a
+    /// function with another error, such as `anyhow::Error`, write `.map_err(|e| e.0)?`.
     pub fn copy_to<E: Disk>(
         &self,
         rt: &(impl Threads + Sync),

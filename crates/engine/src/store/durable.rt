@@ -7,10 +7,11 @@ ghost use Rattle.keys.specs.Step.{map_after_all, replies_to};
 ghost use Rattle.keys.specs.declared.fault.Fault.TheVariants.{NoMemory};
 ghost use Rattle.mapping.specs.Levels.{contents};
 ghost use Rattle.engine.specs.Copies.{puts_of};
-ghost use Rattle.engine.specs.Durable.{IsDurable, IsFlushed, IsGivenUp, IsUndoTried, IsUnwritten, contents_after};
+ghost use Rattle.engine.specs.Durable.{IsDurable, IsFlushed, IsGivenUp, IsUndoTried, IsUnwritten, contents_after, fault_of};
 ghost use Rattle.engine.specs.Refusal.{is_crew, longest_batch, refusal};
 ghost use Rattle.engine.specs.Undo.{IsTooLongToUndo, most_restored, restore, undo_of, undo_of_all, undo_within};
 
+use crate::explain::ExplainedFault;
 use crate::refusal::{LONGEST_BATCH, admit, admit_crew};
 use crate::store::Store;
 use crate::store::copy::puts_of;
@@ -20,10 +21,11 @@ use keys::{Command, Fault, Reply};
 use mapping::laws::the_contents_of_a_proper_tree_rise;
 use scan::Rows;
 use std::alloc::{AllocError, Global};
+use std::error::Error;
 use std::fmt;
 use std::thread::Threads;
 
-/// Why `Store::batch_durable` did not make a batch durable.
+/// Why `Store::batch_durable` or `Handle::execute_durable` did not make a batch durable.
 #[derive(Debug, Drop, PartialEq, Eq)]
 pub enum Unwritten {
     /// The batch was refused, or its flush was refused and the batch was undone. The store has the contents that it had
@@ -35,17 +37,52 @@ pub enum Unwritten {
     /// `Store::tidy` merges the emptied leaves.
     Undone(Fault),
     /// The store has in memory the contents that the batch left. After `Fault::Device` the store has failed: the disk
-    /// holds the store of the last flush or that of this one, and `Store::reopen` returns it. After any other fault the
-    /// disk holds the store of the last flush, and the batch could not be undone, most likely because an allocation
-    /// failed: a later flush makes the batch durable.
+    /// holds the store of the last flush that succeeded or that of this one, and `Store::reopen` returns it. After any
+    /// other fault the disk holds the store of the last flush that succeeded, and the batch could not be undone, most
+    /// likely because an allocation failed: a later flush makes the batch durable.
     InDoubt(Fault),
 }
 
+impl Unwritten {
+    /// Returns the fault for which the batch was refused, or for which its flush was.
+    pub fn fault(&self) -> &Fault
+        ensures { result.now ≡ fault_of self.now }
+    {
+        match self {
+            Unwritten::Undone(fault) | Unwritten::InDoubt(fault) => fault,
+        }
+    }
+
+    // What happened to the batch, in a sentence.
+    fn outcome(&self) -> &'static str {
+        match self {
+            Unwritten::Undone(_) => "The batch has no effect.",
+            Unwritten::InDoubt(Fault::Device) => "The batch may or may not be durable.",
+            Unwritten::InDoubt(_) => {
+                "The batch is in memory, and the next flush that succeeds makes it durable."
+            }
+        }
+    }
+}
+
+/// Prints what happened to the batch, what the fault means, and what to do about it.
 impl fmt::Display for Unwritten {
     fn fmt<W: fmt::Write>(&self, f: &mut fmt::Formatter<W>) -> fmt::Result {
-        match self {
-            Unwritten::Undone(fault) => write!(f, "{fault}: the batch has no effect"),
-            Unwritten::InDoubt(fault) => write!(f, "{fault}: the batch is in doubt"),
+        let outcome = self.outcome();
+        let explained = ExplainedFault(self.fault());
+        write!(f, "{outcome} {explained}")
+    }
+}
+
+impl Error for Unwritten {}
+
+/// Drops whether the batch was undone. So `?` turns an `Unwritten` into its fault in a function that returns a `Fault`.
+impl From<Unwritten> for Fault {
+    ghost from_gives = { λ unwritten fault. fault ≡ fault_of unwritten };
+
+    fn from(unwritten: Unwritten) -> Fault {
+        match unwritten {
+            Unwritten::Undone(fault) | Unwritten::InDoubt(fault) => fault,
         }
     }
 }

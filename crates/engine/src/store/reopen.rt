@@ -1,19 +1,21 @@
 //! Opens stores: from a disk, or again from a store's own disk.
-ghost use Rattle.std.specs.Prelude.{◌≡◌, ◌≢◌, Err, false, IsTrue, IfOk, IfErr, OnOk};
+ghost use Rattle.std.specs.Prelude.{◌≡◌, ◌≢◌, ◌⊎◌, Err, true, false, IsTrue, IfOk, IfErr, OnOk};
 ghost use Rattle.keys.specs.Bytes.{Bytes};
 ghost use Rattle.flush_log.specs.Disk.{CountsFailure, IsSynced, Kept, Leaves, Same};
 ghost use Rattle.recovery.specs.Recovered.{IsReadOf};
-ghost use Rattle.engine.specs.Opened.{IsOpened, IsOpenedOn, disk_left};
+ghost use Rattle.mapping.specs.TreeInMemory.{AreAllHome};
+ghost use Rattle.engine.specs.Opened.{IsOpened, IsOpenedOn, IsReopened, disk_left, read_on};
 ghost use Rattle.engine.specs.Refusal.{is_crew};
 ghost use Rattle.engine.specs.State.{IsSound};
 
 use crate::refusal::admit_crew;
 use crate::store::Store;
+use crate::store::clean::is_of_disk;
 use crew::Crew;
 use flush_log::{Disk, DiskFault};
 use keys::Fault;
 use recovery::laws::what_is_read_is_a_store;
-use recovery::recover;
+use recovery::{Recovered, recover};
 use std::alloc::Global;
 use std::thread::Threads;
 
@@ -31,9 +33,36 @@ fn settle<D: Disk>(disk: &mut D) -> Result<(), DiskFault>
     disk.sync()
 }
 
+// Syncs the disk, and reads the store on it.
+fn read_synced<D: Disk>(
+    rt: &(impl Threads + Sync),
+    crew: Crew,
+    alloc: Global,
+    disk: &mut D,
+) -> Result<Recovered, Fault>
+    ensures opened { IsOpenedOn D.view D.failed true disk.old (read_on result disk.new) }
+    ensures home { IfOk result (λ found. AreAllHome found.tree) }
+{
+    // Only for the proof.
+    what_is_read_is_a_store();
+    match settle(disk) {
+        Ok(()) => recover(rt, crew, alloc, disk),
+        Err(failed) => Err(failed.into()),
+    }
+}
+
+// Whether a store has failed after a call on it failed with this fault.
+fn has_failed_after(had_failed: bool, fault: &Fault) -> bool
+    ensures { ((fault.now ≡ Fault.Device) × (result ≡ true))
+        ⊎ ((fault.now ≢ Fault.Device) × (result ≡ had_failed)) }
+{
+    is_of_disk(fault) || had_failed
+}
+
 impl<D: Disk> Store<D> {
-    /// Opens the store on the disk: its pages, root, height and settings are those of the last flush or upgrade, and
-    /// its log has the version that it had then. Writes nothing.
+    /// Opens the store on the disk: its pages, root, height and settings are those of the last flush or upgrade that
+    /// succeeded, or, if one failed with `Fault::Device` after it, possibly those that it was writing. Its log has the
+    /// version that it had then. Writes nothing.
     ///
     /// The disk should be synced: after its last write it had a sync, for example by a flush, an upgrade, a clean or a
     /// `reopen` that returned Ok, or by the caller's own `sync`. The store is also read from a disk that is not synced,
@@ -114,11 +143,38 @@ impl<D: Disk> Store<D> {
     }
 
     /// Drops the store's contents in memory, and opens the store on its disk, as `Store::open` does: the store of the
-    /// last flush or upgrade. Use it to continue with a store that has failed (`Fault::Failed`).
+    /// last flush or upgrade that succeeded, or, if one failed with `Fault::Device`, possibly the store that it was
+    /// writing. Use it to continue with a store that has failed (`Fault::Failed`).
     pub fn reopen(self, rt: &(impl Threads + Sync), crew: Crew) -> Result<Store<D>, (Fault, D)>
         ensures { IsOpenedOn D.view D.failed (is_crew crew) self.disk result }
     {
         let alloc = self.alloc;
         Store::open(rt, alloc, self.close(), crew)
+    }
+
+    // Opens the store on its disk, as `reopen` does, and replaces the contents in memory only then. The crew is in
+    // range.
+    pub(crate) fn reopen_in_place(
+        &mut self,
+        rt: &(impl Threads + Sync),
+        crew: Crew,
+    ) -> Result<(), Fault>
+        ensures { IsReopened D.view D.failed self.old result self.new }
+    {
+        match read_synced(rt, crew, self.alloc, &mut self.disk) {
+            Ok(found) => {
+                let slot = found.slot;
+                self.settings = found.settings;
+                self.tree = found.tree;
+                self.log = slot.ends;
+                self.version = slot.version;
+                self.has_failed = false;
+                Ok(())
+            }
+            Err(fault) => {
+                self.has_failed = has_failed_after(self.has_failed, &fault);
+                Err(fault)
+            }
+        }
     }
 }

@@ -27,16 +27,6 @@ returns-in_err-check g c =
       fine = tt;
     })
 
-pub returns-in_err-open : goal.returns-in_err-open
-returns-in_err-open g c =
-    let good = not_refused (λ field. BadSettings field) (first_bad_field c.args.settings) c.check.result tt _ c.check.ensures c.in_ok-check.was in
-    let p = err_from_is_err_and c.from_residual-in_err-open.result c.from_residual-in_err-open.ensures.1 in
-    rw p.1 (record {
-      bad_crew = λ bad. absurd (not_both (is_crew c.args.crew) c.in_ok-admit_crew.ensures.ok bad);
-      opened = λ _. rw good ([], of_system [] _ _ p.2);
-      fine = tt;
-    })
-
 pub returns-in_err-disk : goal.returns-in_err-disk
 returns-in_err-disk g c =
     let good = not_refused (λ field. BadSettings field) (first_bad_field c.args.settings) c.check.result tt _ c.check.ensures c.in_ok-check.was in
