@@ -26,11 +26,11 @@ from tools import building
 from tools.processes import PROGRAM, Command, exit_if_missing
 
 HERE = Path(__file__).resolve().parent
+LEVELDB = "LevelDB"
 BIG, SMALL = "fan 64, chain 16", "defaults"
 SETTINGS = {BIG: (64, 16), SMALL: (16, 4)}  # fan and chain
 UNIT = "ns a command"  # of most rows
 RANGES = 100_000
-WORKERS = 4
 PARTS = ["speeds", "calls", "lengths", "many pairs", "ranges", "workers", "persistent"]
 OVER_LIBRARY = {"calls": "crew", "ranges": "range", "workers": "crew"}  # the parts that need a program that uses the library, and the program's name
 
@@ -41,6 +41,9 @@ Row = dict[str, Any]
 
 def goals(big: float | None, small: float | None = None) -> Goals:
     return {name: number for name, number in ((BIG, big), (SMALL, small)) if number is not None}
+
+
+WORKERS = {2: goals(1.6, 1.5), 4: goals(2.4, 2.2)}  # with what is wanted beside one
 
 
 def load(work: Workload, name: str = LOAD, batch: int = LONG) -> Phase:
@@ -158,7 +161,7 @@ class GoalBench:
     def memory(self, results: Results, work: Workload) -> list[Row]:
         """Returns the memory per pair as a multiple of the pair's own bytes."""
         rows = []
-        for phase, after, goal in ((LOAD, "the load", goals(1.6, 2.0)), (HALF, "half and half", goals(2.2, 2.6))):
+        for phase, after, goal in ((LOAD, "the load", goals(1.75, 2.2)), (HALF, "half and half", goals(2.4, 2.8))):
             figures = {name: taken for (of, name), taken in results.memory.items() if of == phase}
             reached = {name: figures[name] / work.raw for name in goal}
             rows.append(row(f"memory by the raw pairs, after {after}", len(work.keys), "bytes a pair", figures, reached, goal, most=True))
@@ -213,26 +216,37 @@ class GoalBench:
             runs.setdefault(name, []).append(sample.cpu)
         if len(digests) > 1:
             sys.exit("ranges: the programs print different sums")
-        goal, figures = goals(0.8, 0.6), {name: min(times) / RANGES * 1e9 for name, times in runs.items()}
+        goal, figures = goals(1.1, 1.0), {name: min(times) / RANGES * 1e9 for name, times in runs.items()}
         reached = {name: figures[PEER] / figures[name] for name in goal if PEER in figures}
         return [row("ranges of 100 rows, by `Store::range`", RANGES, UNIT, figures, reached, goal, runs)]
 
     def workers(self) -> list[Row]:
         runs: dict[tuple[str, str, int], list[float]] = {}
-        for name, workers in itertools.product(self.in_turn(SETTINGS), (1, WORKERS)):
+        for name, workers in itertools.product(self.in_turn(SETTINGS), (1, *WORKERS)):
             print(f"  {workers} workers: {name}", file=sys.stderr)
             numbers = map(str, (*SETTINGS[name], workers, GRAIN))
             for phase, seconds in time_long_batches([self.options.library / "crew_bench", *numbers]).items():
                 runs.setdefault((phase, name, workers), []).append(seconds)
-        return [self.row_of_workers(phase, runs) for phase in PHASES]
+        return [self.row_of_workers(workers, phase, runs) for workers in WORKERS for phase in PHASES]
 
-    def row_of_workers(self, phase: str, runs: Mapping[tuple[str, str, int], list[float]]) -> Row:
-        goal = goals(2.4, 2.2)
-        least = {(name, workers): min(runs[phase, name, workers]) for name in goal for workers in (1, WORKERS)}
-        figures = {f"{name}, {workers} workers": least[name, workers] for name in goal for workers in (WORKERS, 1)}
-        reached = {name: least[name, 1] / least[name, WORKERS] for name in goal}
-        taken = {f"{name}, {workers} workers": times for (of, name, workers), times in runs.items() if of == phase}
-        return row(f"{WORKERS} workers beside one: {PHASES[phase]}", 1_000_000, "s", figures, reached, goal, taken)
+    def row_of_workers(self, workers: int, phase: str, runs: Mapping[tuple[str, str, int], list[float]]) -> Row:
+        goal, crews = WORKERS[workers], (workers, 1)
+        taken = {f"{name}, {crew} workers": runs[phase, name, crew] for name in goal for crew in crews}
+        least = {(name, crew): min(runs[phase, name, crew]) for name in goal for crew in crews}
+        figures = {f"{name}, {crew} workers": least[name, crew] for name in goal for crew in crews}
+        reached = {name: least[name, 1] / least[name, workers] for name in goal}
+        return row(f"{workers} workers beside one: {PHASES[phase]}", 1_000_000, "s", figures, reached, goal, taken)
+
+
+def rows_beside_leveldb(figures: Figures) -> list[Row]:
+    """Returns a row for each length of commits: durable puts a second, as a multiple of LevelDB's."""
+    rows = []
+    for commits, wanted in ((persistent.FEW, 1.2), (persistent.MANY, 1.0)):
+        goal = goals(wanted)
+        rates = {name: persistent.rate(figures, name, commits) for name in (LEVELDB, *SETTINGS) if name in figures["stores"]}
+        reached = {name: rates[name] / rates[LEVELDB] for name in goal if LEVELDB in rates}
+        rows.append(row(f"durable puts beside LevelDB, {commits.batch:,} a commit", figures["pairs"], "pairs a second", rates, reached, goal))
+    return rows
 
 
 def row_of_flushes(figures: Figures) -> Row:
@@ -298,7 +312,7 @@ def measure_part(part: str, bench: GoalBench, figures: Figures) -> None:
         rows = bench.workers()
     else:
         figures["persistent"] = persistent.measure(options.program, options.pairs // 2, options.repeats, options.folder)
-        rows = [row_of_flushes(figures["persistent"])]
+        rows = [row_of_flushes(figures["persistent"]), *rows_beside_leveldb(figures["persistent"])]
     figures["rows"] += rows
 
 

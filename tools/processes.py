@@ -76,7 +76,7 @@ def new_folder() -> tempfile.TemporaryDirectory[str]:
 
 def exit_if_missing(program: Path) -> None:
     if not program.exists():
-        sys.exit(f"{program} is missing: `rt run` in crates/bwsh builds it")
+        sys.exit(f"{program} is missing: `./build --proved` builds it")
 
 
 def pipe_of(stream: IO[bytes] | None) -> IO[bytes]:

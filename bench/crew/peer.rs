@@ -11,19 +11,24 @@ enum Command {
     Get(Vec<u8>),
     Put(Vec<u8>, Vec<u8>),
     Del(Vec<u8>),
+    Scan(Vec<u8>),
 }
+
+const ROWS: usize = 100;
+const SCANS: usize = 1_000;
 
 #[derive(Clone)]
 #[allow(dead_code)] // replies are made and dropped
 enum Reply {
     Value(Vec<u8>),
     Word(&'static str),
+    Rows(Vec<(Vec<u8>, Vec<u8>)>),
 }
 
 impl Command {
     fn key(&self) -> &[u8] {
         match self {
-            Command::Get(key) | Command::Put(key, _) | Command::Del(key) => key,
+            Command::Get(key) | Command::Put(key, _) | Command::Del(key) | Command::Scan(key) => key,
         }
     }
 
@@ -32,6 +37,7 @@ impl Command {
             Command::Get(key) => map.get(key).map_or(Reply::Word("missing"), |value| Reply::Value(value.clone())),
             Command::Put(key, value) => Reply::Word(map.insert(key.clone(), value.clone()).map_or("new", |_| "replaced")),
             Command::Del(key) => Reply::Word(map.remove(key).map_or("missing", |_| "deleted")),
+            Command::Scan(key) => Reply::Rows(map.range(key.clone()..).take(ROWS).map(|(key, value)| (key.clone(), value.clone())).collect()),
         }
     }
 }
@@ -53,6 +59,11 @@ fn mixed(number: u64) -> u64 {
     two ^ (two >> 31)
 }
 
+fn rank(place: u64) -> u64 {
+    let bits = mixed(place);
+    (bits & 0xf_ffff) >> ((bits >> 32) % 20)
+}
+
 fn key(number: u64) -> Vec<u8> {
     u128::from(mixed(number)).rotate_left(64).to_be_bytes().to_vec()
 }
@@ -62,7 +73,9 @@ fn command(phase: &str, place: u64, pairs: u64, length: usize) -> Command {
     match phase {
         "load" => Command::Put(key(place), vec![b'a'; length]),
         "half" if place % 2 == 1 => Command::Put(key(number), vec![b'b'; length]),
-        "gets" | "half" => Command::Get(key(number)),
+        "gets" | "single_gets" | "half" => Command::Get(key(number)),
+        "zipf" => Command::Get(key(rank(place) % pairs)),
+        "scans" => Command::Scan(key(number)),
         "singles" => Command::Put(key(number), vec![b'c'; length]),
         _ => Command::Del(key(number)),
     }
@@ -72,10 +85,16 @@ fn main() -> io::Result<()> {
     let given: Vec<u64> = env::args().skip(1).filter_map(|word| word.parse().ok()).collect();
     let number = |at: usize, default: u64| given.get(at).copied().unwrap_or(default);
     let (pairs, most, length, singles) = (number(4, 1_000_000), number(5, 65_535), number(6, 100) as usize, number(7, 0));
+    let reads = number(8, 0);
     let mut map = Map::new();
     let mut out = io::stdout().lock();
-    for phase in ["load", "gets", "half", "singles", "deletes"] {
-        let (count, longest) = if phase == "singles" { (singles, 1) } else { (pairs, most as usize) };
+    for phase in ["load", "gets", "zipf", "scans", "single_gets", "half", "singles", "deletes"] {
+        let (count, longest) = match phase {
+            "single_gets" | "singles" => (singles, 1),
+            "zipf" => (reads, most as usize),
+            "scans" => (reads / 50, SCANS),
+            _ => (pairs, most as usize),
+        };
         let mut batch = Vec::new();
         for place in 0..count {
             batch.push(command(phase, place, pairs, length));
