@@ -1,5 +1,0 @@
-import re,sys,subprocess
-for p in subprocess.run(['git','diff','--name-only','--diff-filter=U'],capture_output=True,text=True).stdout.split():
-    s=open(p).read()
-    s=re.sub(r'<<<<<<< [^\n]*\n(.*?)(?:\|\|\|\|\|\|\| [^\n]*\n.*?)?=======\n(.*?)>>>>>>> [^\n]*\n',lambda m:m[1]+m[2],s,flags=re.S)
-    open(p,'w').write(s); print(p)
