@@ -92,7 +92,7 @@ module _ {V : Type 0} where
 
 module _ {V : Type 0} (of : Page V → PageOfKind) where
   module _ (kind : IsKind of) where
-    cut_one : (g : List (Updated V)) → is_rewritten g ≡ true → IsInOrder g → CanJoin (map (λ x. x.page) (map (page_seen of) g))
+    pub cut_one : (g : List (Updated V)) → is_rewritten g ≡ true → IsInOrder g → CanJoin (map (λ x. x.page) (map (page_seen of) g))
     cut_one [] e h = absurd (cc)
     cut_one (w ∷ ws) e h =
         let rising : IsRising (joined_pages (pages_of_group (w ∷ ws))) = subst (λ (es : List (List ℕ × V)). IsRising es) (sym (joined-bare_pages (placed_of (w ∷ ws)))) h.rising in

@@ -1,6 +1,6 @@
 -- Steps of a climb's changes of the mapping table: the effect of one step on the other places.
 use Rattle.std.specs.Prelude.{◌≡◌, ◌≢◌, ℕ, suc, ◌+◌, ◌-◌, ◌<◌, ◌++◌, map, take, drop, length, slice_get, slice_index_or, Bool, true, false, cond, if◌then◌else◌, List, [], ◌∷◌, Option, Some, None, IsSome}
-use Rattle.std.proofs.Common.{refl, sym, ap, ◌∙◌, subst, get_or, drop-cons, arith, Ordering, Less, Equal, Greater}
+use Rattle.std.proofs.Common.{refl, sym, ap, ◌∙◌, subst, append_assoc, get_or, drop-cons, arith, Ordering, Less, Equal, Greater}
 use Rattle.std.specs.List.{AllByRecursion}
 use Rattle.std.specs.Ordering.{nat_cmp, is_eq, match_ordering}
 use Rattle.std.specs.Map.{remove_entry}
@@ -20,7 +20,7 @@ use Rattle.page_runs.specs.TermWork.{TermHeld, term_held_of}
 use Rattle.page_runs.specs.declared.term_work.TermJob.{TermJob}
 use Rattle.climb_plan.specs.Changing.{SeenPage}
 use Rattle.climb_plan.specs.Rewriting.{Remade}
-use Rattle.climb_plan.specs.Installing.{all_taken, page_or_none, parent_held, IsIndexAt, AreParentsHome, all_put, AreAway, come_home, all_come_home, members_freed, put_under, group_installed, first_replaced, all_installed, CanInstall, CanInstallAll}
+use Rattle.climb_plan.specs.Installing.{all_taken, page_or_none, parent_held, IsIndexAt, AreParentsHome, all_put, AreAway, come_home, all_come_home, pages_under, members_freed, put_under, group_installed, first_replaced, all_installed, CanInstall, CanInstallAll}
 
 -- ---- other places
 
@@ -134,6 +134,24 @@ home_next tree now k ks all e n h =
     let rest : AreAllAtHome t ks = (all_kept (λ o. IsSome (at_home o)) tree.table t k (gone_apart tree.table k) ks a.1.0 a.0.1, a.1.1) in
     subst (λ (x : TreeInMemory). AreAllAtHome x.table ks) (sym n) rest
 
+-- of pages that are checked out one after the other, what the others are
+pub under_apart : (t u : Mapping PageOfKind) (k : ℕ) (ks : List ℕ) → KeepsOthers t u k → AllByRecursion (λ q. q ≢ k) ks → pages_under u ks ≡ pages_under t ks
+under_apart t u k [] keeps d = refl
+under_apart t u k (q ∷ qs) keeps d =
+    ap (λ (o : Option (Option PageOfKind)). page_or_none (at_home o) ∷ pages_under u qs) (keeps q d.0) ∙ ap (λ (ps : List PageOfKind). page_or_none (page_of t q) ∷ ps) (under_apart t u k qs keeps d.1)
+
+pub pages_step : (tree now : TreeInMemory) (k : ℕ) (ks all : List ℕ) (done pushed pages : List PageOfKind) (p : PageOfKind) → all ≡ k ∷ ks → now ≡ record tree { table = gone_from tree.table k } → AreAllAtHome tree.table all → pushed ≡ done ++ p ∷ [] → page_of tree.table k ≡ Some p
+    → done ++ pages_under tree.table all ≡ pages → pushed ++ pages_under now.table ks ≡ pages
+pages_step tree now k ks all done pushed pages p e n home q here h =
+    let apart = (subst (λ (ns : List ℕ). AreAllAtHome tree.table ns) e home).1.0 in
+    let rest : pages_under now.table ks ≡ pages_under tree.table ks = ap (λ (x : TreeInMemory). pages_under x.table ks) n ∙ under_apart tree.table (gone_from tree.table k) k ks (gone_apart tree.table k) apart in
+    ap (λ (ps : List PageOfKind). ps ++ pages_under now.table ks) q
+    ∙ append_assoc done (p ∷ []) (pages_under now.table ks)
+    ∙ ap (λ (ps : List PageOfKind). done ++ p ∷ ps) rest
+    ∙ ap (λ (o : Option PageOfKind). done ++ page_or_none o ∷ pages_under tree.table ks) (sym here)
+    ∙ ap (λ (ns : List ℕ). done ++ pages_under tree.table ns) (sym e)
+    ∙ h
+
 pub freed_step : (tree now done : TreeInMemory) (k : ℕ) (ks all : List ℕ) → all ≡ k ∷ ks → now ≡ record tree { table = gone_from tree.table k } → tree_freed tree all ≡ done → tree_freed now ks ≡ done
 freed_step tree now done k ks all r n h =
     ap (λ (x : TreeInMemory). tree_freed x ks) n ∙ ap (λ (x : List ℕ). tree_freed tree x) (sym r) ∙ h
@@ -200,13 +218,6 @@ module _ (tree : TreeInMemory) (r : Remade) (k : ℕ) (ks : List ℕ) (p : PageO
   abbrev distinct : Distinct (k ∷ ks ++ r.fresh)
   distinct = subst (λ (ns : List ℕ). Distinct (ns ++ r.fresh)) ms can.distinct
 
-  pub members_home : (xs : List ℕ) → xs ≡ ks → AreAllAtHome replaced.table xs
-  members_home xs e =
-      let home : AllByRecursion (λ pid. IsSome (page_of tree.table pid)) (k ∷ ks) = subst (λ (ns : List ℕ). AllByRecursion (λ pid. IsSome (page_of tree.table pid)) ns) ms can.members in
-      let t : Mapping PageOfKind = replaced_by tree.table k p in
-      let rest : AreAllAtHome t ks = (all_kept (λ o. IsSome (at_home o)) tree.table t k (placed_apart (log_outdated tree.table k) k (Some p)) ks (all_apart (λ m. m ≢ k) ks r.fresh distinct.0).0 home.1, distinct_first ks r.fresh distinct.1) in
-      subst (λ (x : TreeInMemory). AreAllAtHome x.table xs) (sym is) (subst (λ (ns : List ℕ). AreAllAtHome t ns) (sym e) rest)
-
   pub fresh_away : (less : TreeInMemory) (xs fresh : List ℕ) → xs ≡ ks → fresh ≡ r.fresh → less ≡ tree_freed replaced xs → AreAway less.table fresh
   fresh_away less xs fresh e f l =
       let t : Mapping PageOfKind = replaced_by tree.table k p in
@@ -231,22 +242,9 @@ put_again_by Less k v w e es rest again o h = rw (tied_itself total k) refl
 put_again_by Equal k v w e es rest again o h = rw o refl
 put_again_by Greater k v w e es rest again o h = rw o (ap (λ (x : List (ℕ × _)). e ∷ x) h)
 
-put_again : {V : Type 0} → (es : List (ℕ × V)) (k : ℕ) (v w : V) → insert_entry nat_cmp (insert_entry nat_cmp es k v) k w ≡ insert_entry nat_cmp es k w
+pub put_again : {V : Type 0} → (es : List (ℕ × V)) (k : ℕ) (v w : V) → insert_entry nat_cmp (insert_entry nat_cmp es k v) k w ≡ insert_entry nat_cmp es k w
 put_again [] k v w = rw (tied_itself total k) refl
 put_again (e ∷ es) k v w = put_again_by (nat_cmp k e.0) k v w e es (insert_entry nat_cmp es k v) (insert_entry nat_cmp es k w) refl (put_again es k v w)
-
-pub replaced_tree : (tree taken known now : TreeInMemory) (k : ℕ) (p : PageOfKind) → taken ≡ record tree { table = with_place tree.table k None } → known ≡ record taken { table = log_outdated taken.table k }
-    → now ≡ record known { table = with_place known.table k (Some p) } → now ≡ record tree { table = with_place (log_outdated tree.table k) k (Some p) }
-replaced_tree tree taken known now k p a b n =
-    let put : TreeInMemory → TreeInMemory = λ t. record t { table = with_place t.table k (Some p) } in
-    let less : TreeInMemory → TreeInMemory = λ t. record t { table = log_outdated t.table k } in
-    n ∙ ap put (b ∙ ap less a)
-    ∙ ap (λ (es : List (ℕ × Option PageOfKind)). record tree { table = record { places = es; logged = outdate_all (k ∷ []) tree.table.logged } }) (put_again tree.table.places k None (Some p))
-
-pub taken_away : (tree taken known : TreeInMemory) (k : ℕ) → taken ≡ record tree { table = with_place tree.table k None } → known ≡ record taken { table = log_outdated taken.table k } → place_of known.table k ≡ Some None
-taken_away tree taken known k a b =
-    let less : TreeInMemory → TreeInMemory = λ t. record t { table = log_outdated t.table k } in
-    ap (λ (t : TreeInMemory). place_of t.table k) (b ∙ ap less a) ∙ place_here tree.table k None
 
 pub taken_here : (tree taken : TreeInMemory) (k : ℕ) → taken ≡ record tree { table = with_place tree.table k None } → place_of taken.table k ≡ Some None
 taken_here tree taken k a = ap (λ (t : TreeInMemory). place_of t.table k) a ∙ place_here tree.table k None

@@ -18,9 +18,10 @@ use Rattle.mapping.specs.Table.{Mapping, is_same_pid, pids_in_use, place_of, pag
 use Rattle.mapping.proofs.PidLemmas.{below_later}
 use Rattle.mapping.proofs.TableLemmas.{differ, same_pid}
 use Rattle.mapping.proofs.SameTable.{same_table}
+use Rattle.split_plan.specs.Pieces.{CanJoin, group_made}
 use Rattle.climb_plan.specs.Changing.{SeenPage}
 use Rattle.climb_plan.specs.Rewriting.{Remade}
-use Rattle.climb_plan.specs.Installing.{all_taken, all_put, come_home, all_come_home, members_freed, put_under, group_installed, all_installed, CanInstallAll}
+use Rattle.climb_plan.specs.Installing.{all_taken, all_put, come_home, all_come_home, page_or_none, pages_under, members_freed, put_under, group_installed, all_installed, IsMade, CanInstallAll}
 use Rattle.climb_plan.proofs.ChangingOutdated.{among-joined, outdate-joined, outdate-same}
 use Rattle.climb_plan.proofs.Installing.{place_here, placed_apart, home_apart, gone_from, gone_apart, replaced_by, distinct_first, distinct_last}
 use Rattle.climb_plan.proofs.InstalledPages.{at_among}
@@ -264,6 +265,29 @@ pub logged-members_freed : (t : Pages) (ks : List ℕ) → (members_freed t ks).
 logged-members_freed t [] = sym (outdate_none t.logged)
 logged-members_freed t (k ∷ ks) = logged-members_freed (gone_from t k) ks ∙ outdate_more k ks t.logged
 
+-- a page is put into a place after others are freed, or before
+by_freed : (b : Bool) (u : Pages) (k q : ℕ) (ks : List ℕ) (p : PageOfKind) → is_among q ks ≡ b → Rises u → Distinct ks → q ≢ k → place_of (with_place (members_freed u ks) k (Some p)) q ≡ place_of (members_freed (with_place u k (Some p)) ks) q
+by_freed true u k q ks p e r d n =
+    let before = at_among (λ m. place_of (members_freed u ks) m ≡ None) q ks (none-members_freed u ks r d) e in
+    let after = at_among (λ m. place_of (members_freed (with_place u k (Some p)) ks) m ≡ None) q ks (none-members_freed (with_place u k (Some p)) ks (rising_with_place u k (Some p) r) d) e in
+    placed_apart (members_freed u ks) k (Some p) q n ∙ before ∙ sym after
+by_freed false u k q ks p e r d n =
+    placed_apart (members_freed u ks) k (Some p) q n ∙ others-members_freed q u ks e ∙ sym (placed_apart u k (Some p) q n) ∙ sym (others-members_freed q (with_place u k (Some p)) ks e)
+
+by_place : (b : Bool) (u : Pages) (k q : ℕ) (ks : List ℕ) (p : PageOfKind) → nat_eq q k ≡ b → Rises u → Distinct ks → is_among k ks ≡ false → place_of (with_place (members_freed u ks) k (Some p)) q ≡ place_of (members_freed (with_place u k (Some p)) ks) q
+by_place true u k q ks p e r d n =
+    let same : k ≡ q = sym (eqb-true q k e) in
+    subst (λ (m : ℕ). place_of (with_place (members_freed u ks) k (Some p)) m ≡ place_of (members_freed (with_place u k (Some p)) ks) m) same
+    (place_here (members_freed u ks) k (Some p) ∙ sym (place_here u k (Some p)) ∙ sym (others-members_freed k (with_place u k (Some p)) ks n))
+by_place false u k q ks p e r d n = by_freed (is_among q ks) u k q ks p refl r d (eqb-false q k e)
+
+pub put_before_freed : (u : Pages) (k : ℕ) (ks : List ℕ) (p : PageOfKind) → Rises u → Distinct ks → is_among k ks ≡ false → with_place (members_freed u ks) k (Some p) ≡ members_freed (with_place u k (Some p)) ks
+put_before_freed u k ks p r d n =
+    let first : Pages = with_place (members_freed u ks) k (Some p) in
+    let last : Pages = members_freed (with_place u k (Some p)) ks in
+    same_pages last first (rising-members_freed (with_place u k (Some p)) ks (rising_with_place u k (Some p) r)) (rising_with_place (members_freed u ks) k (Some p) (rising-members_freed u ks r)) (λ q. by_place (nat_eq q k) u k q ks p refl r d n)
+    (logged-members_freed u ks ∙ sym (logged-members_freed (with_place u k (Some p)) ks))
+
 -- ---- pages put under pids
 
 -- the pages are in the table under these pids, one for each
@@ -464,6 +488,23 @@ none_after (m ∷ ms) ns d = both ns (all_apart (λ k. k ≢ m) ms ns d.0).1 (no
     both (k ∷ ks) a b =
         (or_from (nat_eq k m) (is_among k ms) (false_from_ne_true (nat_eq k m) (λ e. a.0 (eqb-true k m e))) b.0, both ks a.1 b.1)
 
+under_stays : (t u : Pages) (ks : List ℕ) → AllByRecursion (λ k. place_of u k ≡ place_of t k) ks → pages_under t ks ≡ pages_under u ks
+under_stays t u [] a = refl
+under_stays t u (k ∷ ks) a =
+    ap (λ (o : Option (Option PageOfKind)). page_or_none (at_home o) ∷ pages_under t ks) (sym a.0) ∙ ap (λ (ps : List PageOfKind). page_or_none (page_of u k) ∷ ps) (under_stays t u ks a.1)
+
+-- the new pages of each group are those of its members
+abbrev pub AreMade : Mapping PageOfKind → List Remade → Type 0
+AreMade t rs = AllByRecursion (IsMade t) rs
+
+still_made : (t u : Pages) (rs : List Remade) → AllByRecursion (λ k. place_of u k ≡ place_of t k) (groups_pids rs) → AreMade t rs → AreMade u rs
+still_made t u [] a h = tt
+still_made t u (r ∷ rs) a h =
+    let parts = all_apart (λ k. place_of u k ≡ place_of t k) (group_pids r) (groups_pids rs) a in
+    let here = all_apart (λ k. place_of u k ≡ place_of t k) r.members r.fresh parts.0 in
+    let same = under_stays t u r.members here.0 in
+    ((h.0.0, subst (λ (ps : List PageOfKind). CanJoin ps) same h.0.1, subst (λ (ps : List PageOfKind). r.pieces ≡ group_made h.0.0 ps) same h.0.2), still_made t u rs parts.1 h.1)
+
 ready_stays : (R : Option (Option PageOfKind) → Type 0) (t u : Pages) (ks : List ℕ) → AllByRecursion (λ k. place_of u k ≡ place_of t k) ks → AllByRecursion (λ k. R (place_of t k)) ks → AllByRecursion (λ k. R (place_of u k)) ks
 ready_stays R t u [] a b = tt
 ready_stays R t u (k ∷ ks) a b = (subst R (sym a.0) b.0, ready_stays R t u ks a.1 b.1)
@@ -475,14 +516,15 @@ still_ready t u (r ∷ rs) a h =
     let here = all_apart (λ k. place_of u k ≡ place_of t k) r.members r.fresh parts.0 in
     ((ready_stays (λ o. IsSome (at_home o)) t u r.members here.0 h.0.0, ready_stays (λ o. o ≡ Some None) t u r.fresh here.1 h.0.1), still_ready t u rs parts.1 h.1)
 
--- groups can be replaced if their members are in the table and their new pages have empty places, under distinct pids
-pub can_install_all : (t : Pages) (rs : List Remade) → Rises t → Distinct (groups_pids rs) → AreShaped rs → AreReady t rs → CanInstallAll t rs
-can_install_all t [] s d h a = tt
-can_install_all t (r ∷ rs) s d h a =
+-- groups can be replaced if their members, of which the new pages are made, are in the table and their new pages have empty places, under distinct
+-- pids
+pub can_install_all : (t : Pages) (rs : List Remade) → Rises t → Distinct (groups_pids rs) → AreShaped rs → AreReady t rs → AreMade t rs → CanInstallAll t rs
+can_install_all t [] s d h a m = tt
+can_install_all t (r ∷ rs) s d h a m =
     let u : Pages = group_installed t r in
     let here = distinct_first (group_pids r) (groups_pids rs) d in
     let is = group_is_replaced t r s h.0.0 here h.0.1 in
     let same : AllByRecursion (λ k. place_of u k ≡ place_of t k) (groups_pids rs) = each_other (λ k. is_among k (group_pids r) ≡ false) (λ k. place_of u k ≡ place_of t k) (groups_pids rs) is.others (none_after (group_pids r) (groups_pids rs) d) in (
-      record { some = h.0.0; members = a.0.0; fresh = a.0.1; distinct = here; count = h.0.1 },
-      can_install_all u rs (is.rising s) (distinct_last (group_pids r) (groups_pids rs) d) h.1 (still_ready t u rs same a.1),
+      record { some = h.0.0; members = a.0.0; fresh = a.0.1; distinct = here; count = h.0.1; made = m.0; rising = s },
+      can_install_all u rs (is.rising s) (distinct_last (group_pids r) (groups_pids rs) d) h.1 (still_ready t u rs same a.1) (still_made t u rs same m.1),
     )

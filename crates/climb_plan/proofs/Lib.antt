@@ -30,6 +30,7 @@ mod Copying
 -- ---- the table: pages that are checked out and put back, pids that are allocated and freed
 pub mod Installing
 pub mod InstallingLemmas
+mod InstallingGroup
 mod InstallingParents
 pub mod ArrivedPages
 pub mod Arrived

@@ -16,7 +16,7 @@ use Rattle.climb_plan.specs.Changing.AreSeen.{updated, at_home}
 use Rattle.climb_plan.specs.Climb.{LevelPlan, climb}
 use Rattle.climb_plan.specs.HasClimbed.{HasClimbed}
 use Rattle.climb_plan.specs.Installing.{AreAway, all_come_home, all_installed, CanInstallAll}
-use Rattle.climb_plan.specs.Level.{IsLevel, IsChanged}
+use Rattle.climb_plan.specs.Level.{IsKind, IsLevel, IsChanged}
 use Rattle.climb_plan.specs.LevelSteps.{SomeLevel, SomeChildren, ChangesFrom, ClimbsFrom, IsTooHighFrom, Working, IsWorkedOn, HaveClimbed, AreRefused, HaveEnded, CanEnd}
 use Rattle.climb_plan.specs.Rewriting.{Remade}
 use Rattle.climb_plan.specs.declared.refused.Refused.{Refused}
@@ -99,10 +99,10 @@ module _ {V : Type 0} {of : Page V → PageOfKind} {s : Settings} {w : Working} 
 
     module _ {home : TreeInMemory} (come : home ≡ record above { table = all_come_home above.table xs }) where
       -- after they are put back, its groups can be replaced
-      pub installs_here : CanInstallAll home.table groups
-      installs_here =
+      pub installs_here : IsKind of → CanInstallAll home.table groups
+      installs_here kind =
           let l = children_here in
-          subst (λ (u : TreeInMemory). CanInstallAll u.table groups) (sym come) (subst (λ (rs : List Remade). CanInstallAll (all_come_home above.table xs) rs) (sym (changed l.0.updated l.1 l.0.above l.0.used l.0.from l.2 l.3).groups) (level_installs s of w.before xs l.0.updated l.1 l.0.above l.0.used l.0.from l.2 above (above_here l.0.updated l.1 l.0.above l.0.used l.0.from l.2 l.3)))
+          subst (λ (u : TreeInMemory). CanInstallAll u.table groups) (sym come) (subst (λ (rs : List Remade). CanInstallAll (all_come_home above.table xs) rs) (sym (changed l.0.updated l.1 l.0.above l.0.used l.0.from l.2 l.3).groups) (level_installs s of w.before xs l.0.updated l.1 l.0.above l.0.used l.0.from l.2 above (above_here l.0.updated l.1 l.0.above l.0.used l.0.from l.2 l.3) kind))
 
       -- and after they are replaced, the level has climbed
       module _ {after : TreeInMemory} (installed : after ≡ record home { table = all_installed home.table groups }) where

@@ -1,17 +1,18 @@
 -- Groups that are rewritten, and the mapping table after they are replaced: the changes of the plan are installed.
-use Rattle.std.specs.Prelude.{◌≡◌, ℕ, zero, suc, ◌+◌, ◌<◌, Bool, true, false, cond, nat_eq, List, [], ◌∷◌, ◌++◌, map, flat_map, drop, length, Some, None, IsSome}
+use Rattle.std.specs.Prelude.{◌≡◌, ℕ, zero, suc, ◌+◌, ◌<◌, Bool, true, false, cond, nat_eq, List, [], ◌∷◌, ◌++◌, map, flat_map, drop, length, Option, Some, None, IsSome}
 use Rattle.std.proofs.Common.{refl, sym, ap, ◌∙◌, subst, arith, append-nil, length-append}
 use Rattle.std.specs.List.{filter, AllByRecursion, range_with_len}
 use Rattle.std.proofs.lemmas.Bool.{or_parts, or_from}
-use Rattle.std.proofs.lemmas.List.{length-map}
+use Rattle.std.proofs.lemmas.List.{length-map, map-append}
 use Rattle.keys.specs.Lists.{flat}
 use Rattle.keys.specs.declared.settings.Settings.{Settings}
 use Rattle.index_page.specs.Page.{Page, PageOfKind}
-use Rattle.index_page.proofs.ListLemmas.{all-append, all_apart}
+use Rattle.index_page.proofs.ListLemmas.{all-append, all_apart, all-filter}
 use Rattle.mapping.specs.Levels.{Placed, joined, pids}
 use Rattle.mapping.specs.FreshPids.{is_among, unused, IsNeverUnused}
 use Rattle.mapping.specs.Outdate.{outdate_all}
 use Rattle.mapping.specs.Proper.{Distinct, AreRisingPids}
+use Rattle.mapping.specs.Table as table
 use Rattle.mapping.specs.Table.{Mapping, pids_in_use, place_of, page_of}
 use Rattle.mapping.proofs.LevelLemmas.{pids-append, same_pids}
 use Rattle.mapping.proofs.PidLemmas.{among_apart}
@@ -19,19 +20,21 @@ use Rattle.page_runs.specs.Updated.{Updated, is_fat}
 use Rattle.split_plan.specs.Cut.{cut}
 use Rattle.split_plan.specs.UpdatedLevel.{placed_of}
 use Rattle.split_plan.specs.Change.{is_rewritten, remade, changes, new_of, fresh_of}
+use Rattle.split_plan.specs.Pieces.{CanJoin, group_made}
 use Rattle.split_plan.specs.Terms.{freed_of}
 use Rattle.split_plan.proofs.ChangeLemmas.{remade_by, remade_begins}
 use Rattle.split_plan.proofs.PidLemmas.{distinct_renewed, recast, renewed-append}
 use Rattle.split_plan.proofs.Renewed.{Renewed}
 use Rattle.split_plan.proofs.Renewed.Renewed.{done, keep, drop_one, draw}
-use Rattle.climb_plan.specs.Changing.{AreHome}
-use Rattle.climb_plan.specs.Installing.{all_installed, CanInstallAll}
-use Rattle.climb_plan.specs.Level.{remade_of}
+use Rattle.climb_plan.specs.Changing.{page_seen, AreHome}
+use Rattle.climb_plan.specs.Installing.{page_or_none, pages_under, all_installed, IsMade, CanInstallAll}
+use Rattle.climb_plan.specs.Level.{IsKind, remade_of}
 use Rattle.climb_plan.specs.Rewriting.{Remade}
-use Rattle.climb_plan.proofs.BridgePieces.{pids-replacements}
+use Rattle.climb_plan.proofs.BridgeGroups.{IsInOrder, AreInOrder, cut_one}
+use Rattle.climb_plan.proofs.BridgePieces.{pids-replacements, pieces_here}
 use Rattle.climb_plan.proofs.ChangingOutdated.{updated_pids-append}
 use Rattle.climb_plan.proofs.InstalledPages.{not_among_from}
-use Rattle.climb_plan.proofs.InstallingLemmas.{AreUnder, AreShaped, AreReady, AreInstalled, groups_pids, can_install_all, all_are_installed, others-all_installed, logged-all_installed, rising-all_installed}
+use Rattle.climb_plan.proofs.InstallingLemmas.{AreUnder, AreShaped, AreReady, AreMade, AreInstalled, groups_pids, can_install_all, all_are_installed, others-all_installed, logged-all_installed, rising-all_installed}
 use Rattle.climb_plan.proofs.Installed.{IsInstalled, updated_pids}
 
 -- ---- fresh pids
@@ -141,6 +144,28 @@ module _ {V : Type 0} (s : Settings) (used : List ℕ) where
         let f = all_apart (λ k. place_of t k ≡ Some None) (pids here) (pids later) (subst (λ (ns : List ℕ). AllByRecursion (λ k. place_of t k ≡ Some None) ns) (pids-append here later) b) in
         ((m.0, f.0), all_ready t (i + length here) gs m.1 f.1)
 
+    -- their members' pages are in the table, so the new pages are those of these
+    under_members : (t : Mapping PageOfKind) (g : List (Updated V)) → AreHome of t (placed_of g) → pages_under t (updated_pids g) ≡ map (λ x. x.page) (map (page_seen of) g)
+    under_members t [] h = refl
+    under_members t (w ∷ ws) h =
+        ap (λ (o : Option (Option PageOfKind)). page_or_none (table.at_home o) ∷ pages_under t (updated_pids ws)) h.0 ∙ ap (λ (ps : List PageOfKind). of w.placed.page ∷ ps) (under_members t ws h.1)
+
+    made_one : IsKind of → (t : Mapping PageOfKind) (i : ℕ) (g : List (Updated V)) → is_rewritten g ≡ true → IsInOrder g → AreHome of t (placed_of g) → IsMade t (remade_of of (record { members = g; pages = remade s used i g }))
+    made_one kind t i g e order h =
+        let same = sym (under_members t g h) in
+        (s, subst (λ (ps : List PageOfKind). CanJoin ps) same (cut_one of kind g e order), sym (pieces_here of kind s used i g e) ∙ ap (λ (ps : List PageOfKind). group_made s ps) same)
+
+    all_made : IsKind of → (t : Mapping PageOfKind) (i : ℕ) (gs : List (List (Updated V))) → AreInOrder gs → AllByRecursion (λ g. AreHome of t (placed_of g)) gs → AreMade t (remade_all i gs)
+    all_made kind t i [] a h = tt
+    all_made kind t i (g ∷ gs) a h = (made_one kind t i g a.0.0 a.0.1 h.0, all_made kind t (i + length (drop 1 (remade s used i g))) gs a.1 h.1)
+
+    home_each : (t : Mapping PageOfKind) (gs : List (List (Updated V))) → AreHome of t (placed_of (flat gs)) → AllByRecursion (λ g. AreHome of t (placed_of g)) gs
+    home_each t [] h = tt
+    home_each t (g ∷ gs) h =
+        let joint = map-append (λ (w : Updated V). w.placed) g (flat gs) in
+        let parts = all_apart (λ p. place_of t p.pid ≡ Some (Some (of p.page))) (placed_of g) (placed_of (flat gs)) (subst (λ (ps : List (Placed V)). AreHome of t ps) joint h) in
+        (parts.0, home_each t gs parts.1)
+
     members_all : (i : ℕ) (gs : List (List (Updated V))) → flat_map (λ r. r.members) (remade_all i gs) ≡ updated_pids (flat gs)
     members_all i [] = refl
     members_all i (g ∷ gs) =
@@ -228,9 +253,10 @@ module _ {V : Type 0} (s : Settings) (used : List ℕ) where
       rs = filter is_rewritten gs
 
       -- groups can be replaced if their members are in the table and the places of fresh pages are empty
-      pub groups_can_be_installed : AllByRecursion (λ k. IsSome (page_of t k)) (updated_pids (flat gs)) → AllByRecursion (λ k. place_of t k ≡ Some None) (pids (fresh_of (changes s used i rs))) → CanInstallAll t (remade_all i rs)
-      groups_can_be_installed a b =
+      pub groups_can_be_installed : IsKind of → AreInOrder rs → AreHome of t (placed_of (flat gs)) → AllByRecursion (λ k. IsSome (page_of t k)) (updated_pids (flat gs)) → AllByRecursion (λ k. place_of t k ≡ Some None) (pids (fresh_of (changes s used i rs))) → CanInstallAll t (remade_all i rs)
+      groups_can_be_installed kind order home a b =
           can_install_all t (remade_all i rs) rises (groups_distinct i gs never distinct) (all_shaped i rs (all_pass gs)) (all_ready t i rs (kept_members (λ k. IsSome (page_of t k)) gs a) b)
+          (all_made kind t i rs order (all-filter (λ g. AreHome of t (placed_of g)) is_rewritten gs (home_each t gs home)))
 
       -- after they are, the changes are installed
       pub groups_installed : IsInstalled of t (all_installed t (remade_all i rs)) (changes s used i rs)

@@ -26,8 +26,9 @@ use Rattle.climb_plan.specs.Changing.AreSeen.{updated, at_home}
 use Rattle.climb_plan.specs.Climb.{climb, families}
 use Rattle.climb_plan.specs.HasClimbed.{HasClimbed}
 use Rattle.climb_plan.specs.Installing.{AreAway, come_home, all_come_home, all_installed, CanInstallAll}
-use Rattle.climb_plan.specs.Level.{IsLevel, parent_pids, remade_of, next_tree}
+use Rattle.climb_plan.specs.Level.{IsKind, IsLevel, parent_pids, remade_of, next_tree}
 use Rattle.climb_plan.proofs.BridgeDrawn.{drawn_places}
+use Rattle.climb_plan.proofs.BridgeGroups.{AreInOrder, changing_in_order}
 use Rattle.climb_plan.proofs.BridgeTables.{AreDrawn, taken_others, taken_logged, drawn_others}
 use Rattle.climb_plan.proofs.ChangedRooms.{shifted}
 use Rattle.climb_plan.proofs.ChangingGroups.{all_groups, groups-changing_families, fresh_on_level}
@@ -258,13 +259,15 @@ module _ {V : Type 0} (s : Settings) (of : Page V → PageOfKind) (t : TreeInMem
     groups_apart = subst (λ (vs : List (Updated V)). Distinct (updated_pids vs)) (sym flat_groups) level_distinct
 
     -- the groups that are rewritten can be replaced
-    pub level_installs : CanInstallAll table_home (map (remade_of of) changes_here)
-    level_installs =
+    pub level_installs : IsKind of → CanInstallAll table_home (map (remade_of of) changes_here)
+    level_installs kind =
+        let order : AreInOrder (filter is_rewritten every_group) = subst (λ (gs : List (List (Updated V))). AreInOrder gs) same_groups (changing_in_order ps ws None h.tiled h.stacked.0.linked) in
+        let home : AreHome of table_home (placed_of (flat every_group)) = subst (λ (vs : List (Updated V)). AreHome of table_home (placed_of vs)) (sym flat_groups) level_home in
         let members : AllByRecursion (λ k. IsSome (page_of table_home k)) (updated_pids (flat every_group)) =
         subst (λ (vs : List (Updated V)). AllByRecursion (λ k. IsSome (page_of table_home k)) (updated_pids vs)) (sym flat_groups) (pages_home of table_home ws level_home) in
         let fresh : AllByRecursion (λ k. place_of table_home k ≡ Some None) (pids (fresh_of (changes s used i (filter is_rewritten every_group)))) =
         subst (λ (gs : List (List (Updated V))). AllByRecursion (λ k. place_of table_home k ≡ Some None) (pids (fresh_of (changes s used i gs)))) same_groups fresh_home in
-        subst (λ (gs : List (List (Updated V))). CanInstallAll table_home (map (remade_of of) (changes s used i gs))) (sym same_groups) (groups_can_be_installed s used of table_home i every_group home_rising groups_never groups_apart members fresh)
+        subst (λ (gs : List (List (Updated V))). CanInstallAll table_home (map (remade_of of) (changes s used i gs))) (sym same_groups) (groups_can_be_installed s used of table_home i every_group home_rising groups_never groups_apart kind order home members fresh)
 
     -- the table after they are replaced
     abbrev pub table_after : Mapping PageOfKind

@@ -22,10 +22,11 @@ use Rattle.climb_plan.specs.Changing.{SeenPage, AreHome}
 use Rattle.climb_plan.specs.Climb.{LevelPlan, alone, climb, climb_of}
 use Rattle.climb_plan.specs.HasClimbed.{HasClimbed}
 use Rattle.climb_plan.specs.Installing.{AreAway, all_come_home, all_installed, CanInstallAll}
-use Rattle.climb_plan.specs.Level.{IsLevel, remade_of, IsTopChanged}
+use Rattle.climb_plan.specs.Level.{IsKind, IsLevel, remade_of, IsTopChanged}
 use Rattle.climb_plan.specs.LevelSteps.{SomeLevel, TopChangesFrom, ClimbsFrom, IsTooHighFrom}
 use Rattle.climb_plan.specs.Rewriting.{Remade}
 use Rattle.climb_plan.proofs.BridgeDrawn.{drawn_places}
+use Rattle.climb_plan.proofs.BridgeGroups.{top_in_order}
 use Rattle.climb_plan.proofs.BridgeTables.{AreDrawn, drawn_others}
 use Rattle.climb_plan.proofs.ChangedRooms.{shifted}
 use Rattle.climb_plan.proofs.ChangingGroups.{fresh_on_top}
@@ -146,16 +147,17 @@ module _ {V : Type 0} (s : Settings) (of : Page V → PageOfKind) (t u : TreeInM
   abbrev remade_here : List Remade
   remade_here = map (remade_of of) changes_here
 
-  can_install : CanInstallAll top_home remade_here
-  can_install =
+  can_install : IsKind of → CanInstallAll top_home remade_here
+  can_install kind =
+      let home : AreHome of top_home (placed_of (flat (ws ∷ []))) = subst (λ (vs : List (Updated V)). AreHome of top_home (placed_of vs)) (sym only_group) level_home in
       let members : AllByRecursion (λ k. IsSome (page_of top_home k)) (updated_pids (flat (ws ∷ []))) =
       subst (λ (vs : List (Updated V)). AllByRecursion (λ k. IsSome (page_of top_home k)) (updated_pids vs)) (sym only_group) (pages_home of top_home ws level_home) in
-      groups_can_be_installed s used of top_home i (ws ∷ []) home_rising group_never group_distinct members fresh_home
+      groups_can_be_installed s used of top_home i (ws ∷ []) home_rising group_never group_distinct kind (top_in_order ws None h.tiled) home members fresh_home
 
   -- the group can be replaced, if it is one
-  pub top_installs : (home : TreeInMemory) → home ≡ record u { table = top_home } → CanInstallAll home.table given
-  top_installs home q =
-      subst (λ (v : TreeInMemory). CanInstallAll v.table given) (sym q) (subst (λ (rs : List Remade). CanInstallAll top_home rs) (sym c.groups) can_install)
+  pub top_installs : IsKind of → (home : TreeInMemory) → home ≡ record u { table = top_home } → CanInstallAll home.table given
+  top_installs kind home q =
+      subst (λ (v : TreeInMemory). CanInstallAll v.table given) (sym q) (subst (λ (rs : List Remade). CanInstallAll top_home rs) (sym c.groups) (can_install kind))
 
   -- ---- and the level has climbed
 

@@ -1,5 +1,5 @@
 -- The changes of a climb to the mapping table, one page after the other.
-use Rattle.std.specs.Prelude.{◌≡◌, ℕ, suc, ◌+◌, ◌<◌, ⊤, false, List, [], ◌∷◌, ◌++◌, flat_map, drop, length, Option, Some, None, IsSome, if◌then◌else◌}
+use Rattle.std.specs.Prelude.{◌≡◌, ℕ, suc, ◌+◌, ◌<◌, ⊤, false, List, [], ◌∷◌, ◌++◌, map, flat_map, drop, length, Option, Some, None, IsSome, if◌then◌else◌}
 use Rattle.std.specs.List.{AllByRecursion}
 use Rattle.keys.specs.Bytes.{Changes, Separators}
 use Rattle.keys.specs.declared.settings.Settings.{Settings}
@@ -10,6 +10,7 @@ use Rattle.mapping.specs.Levels.{Placed, pids, names, top_pid}
 use Rattle.mapping.specs.Proper.{Distinct, AreRisingPids}
 use Rattle.mapping.specs.Table.{Mapping, pids_in_use, place_of, page_of, with_place, freed, freed_all, IsOldWithoutPlace, log_outdated}
 use Rattle.page_runs.specs.TermWork.{TermHeld}
+use Rattle.split_plan.specs.Pieces.{CanJoin, group_made}
 use Rattle.climb_plan.specs.Changing.{SeenPage}
 use Rattle.climb_plan.specs.Climb.{grown_levels}
 use Rattle.mapping.specs.TreeInMemory.{TreeInMemory}
@@ -67,6 +68,15 @@ abbrev pub members_freed : Mapping PageOfKind → List ℕ → Mapping PageOfKin
 members_freed t [] = t
 members_freed t (pid ∷ pids) = members_freed (freed (with_place t pid None) pid) pids
 
+-- the pages in the table under these pids
+abbrev pub pages_under : Mapping PageOfKind → List ℕ → List PageOfKind
+pages_under t pids = map (λ pid. page_or_none (page_of t pid)) pids
+
+-- the table after the pages of a group were checked out: the first one's log state becomes outdated, and the other places are freed
+abbrev pub members_taken : Mapping PageOfKind → List ℕ → Mapping PageOfKind
+members_taken t [] = t
+members_taken t (pid ∷ pids) = members_freed (log_outdated (with_place t pid None) pid) pids
+
 -- the table after pages were put under these pids
 abbrev pub put_under : Mapping PageOfKind → List ℕ → List PageOfKind → Mapping PageOfKind
 put_under t [] pages = t
@@ -87,13 +97,20 @@ abbrev pub all_installed : Mapping PageOfKind → List Remade → Mapping PageOf
 all_installed t [] = t
 all_installed t (r ∷ rs) = all_installed (group_installed t r) rs
 
--- a group that can be replaced: its distinct members are in the table, the places of new pages are empty, and there is a page for each
+-- the group's new pages are those of its members, which can be joined
+abbrev pub IsMade : Mapping PageOfKind → Remade → Type 0
+IsMade t r = (s : Settings) × CanJoin (pages_under t r.members) × (r.pieces ≡ group_made s (pages_under t r.members))
+
+-- a group that can be replaced: its new pages are those of its distinct members, which are in the table, the places of new pages are empty, and there
+-- is a page for each
 pub record CanInstall (t : Mapping PageOfKind) (r : Remade) : Type 0 where
   pub some : 0 < length r.members
   pub members : AllByRecursion (λ pid. IsSome (page_of t pid)) r.members
   pub fresh : AllByRecursion (λ pid. place_of t pid ≡ Some None) r.fresh
   pub distinct : Distinct (r.members ++ r.fresh)
   pub count : length r.pieces ≡ suc (length r.fresh)
+  pub made : IsMade t r
+  pub rising : AreRisingPids (pids_in_use t)
 
 -- groups that can be replaced one after the other
 abbrev pub CanInstallAll : Mapping PageOfKind → List Remade → Type 0

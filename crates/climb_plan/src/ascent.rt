@@ -171,10 +171,11 @@ fn finish_level<D: UpdatedPage>(
         e.0 ≡ Refused.TooHigh →
         IsTooHighFrom D.of settings.now w.before (map D.seen_page dones.items) w.depth) }
 {
+    D::is_of_a_kind();
     match climbed {
         Ok(()) => {
             put_home(rt, crew, alloc, tree, dones);
-            install_all(tree, groups);
+            install_all(alloc, tree, groups);
             Ok(())
         }
         Err((refused, parents)) => {

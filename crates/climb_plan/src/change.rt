@@ -1,9 +1,11 @@
 //! The new pages of a level's groups, and the runs for their parents.
-ghost use Rattle.std.specs.Prelude.{◌≡◌, ℕ, ◌+◌, ◌-◌, ◌<◌, ◌≤◌, ◌++◌, List, map, flat_map, take, drop, length, IfOk, OnOk, OnErr};
+ghost use Rattle.std.specs.Prelude.{◌≡◌, ℕ, ◌+◌, ◌-◌, ◌<◌, ◌≤◌, ◌++◌, List, [], map, flat_map, take, drop, length, vec_len, vec_capacity, IfOk, OnOk, OnErr};
 ghost use Rattle.keys.specs.Lists.{flat};
 ghost use Rattle.keys.specs.Order.{IsRising};
+ghost use Rattle.index_page.specs.InMemory.{page_shown};
 ghost use Rattle.mapping.specs.Proper.{AreRisingPids};
 ghost use Rattle.mapping.specs.Table.{pids_in_use, with_rooms, fresh_pids, freed_all, IsOldWithoutPlace};
+ghost use Rattle.split_plan.specs.Frames.{frame_in, frame_of};
 ghost use Rattle.split_plan.specs.Pieces.{pages_lent};
 ghost use Rattle.climb_plan.specs.Rewriting.{seen_name, all_seen, groups_seen, all_names, cut_group, CanBeCut, joined_groups, freed_names, fresh_names, named_pages, HaveSome, with_numbers, numbers, terms_of, CanTakeTerms, terms_by_parent};
 ghost use Rattle.climb_plan.specs.Installing.{AreAway, DrawsFrom};
@@ -11,11 +13,11 @@ ghost use Rattle.climb_plan.specs.Installing.{AreAway, DrawsFrom};
 use crate::seen::Seen;
 use crew::{Crew, Gate, run_round};
 use delta_chain::Run;
-use index_page::Page;
+use index_page::{Page, PageInMemory};
 use keys::{Key, Pid, Settings};
 use mapping::Tree;
 use mapping::laws::drawn_pids_get_places_that_are_away;
-use split_plan::{GroupDone, GroupJob, GroupWork, Separator, terms};
+use split_plan::{GroupDone, GroupJob, GroupWork, NewPages, Separator, terms};
 use std::alloc::{AllocError, Global};
 use std::collections::VecDeque;
 use std::marker::Model;
@@ -27,21 +29,27 @@ pub(crate) struct Rewritten {
     // The members' page ids. The first new page keeps the first of them.
     members: Vec<Pid>,
     // The pages that replace the group.
-    pieces: Vec<Page<Global>>,
+    pieces: NewPages,
     // The page ids of all new pages but the first, once they are allocated.
     fresh: Vec<u64>,
+    // Room for the members' pages when they are replaced, which may not fail.
+    room: Vec<Page<Global>>,
 }
 
 impl Model for Rewritten {
+    ghost use Rattle.std.specs.Prelude.{◌≡◌, ◌≤◌, [], length, vec_len, vec_capacity};
     ghost use Rattle.climb_plan.specs.Rewriting.{Remade};
 
     ghost Value = { Remade };
 
     ghost view = { λ r.
-        record { members = r.members.items; pieces = r.pieces.items; fresh = r.fresh.items } };
+        record { members = r.members.items; pieces = r.pieces; fresh = r.fresh.items } };
+
+    ghost invariant = { λ r. (r.room.items ≡ []) × (vec_len r.room ≡ 0) ×
+        (length r.members.items ≤ vec_capacity r.room) };
 }
 
-/// Splits the groups. The new pages have no page ids yet.
+/// Splits the groups. The new pages have no page ids yet, and their values are still in the members.
 pub(crate) fn cut_all(
     rt: &(impl Threads + Sync),
     crew: Crew,
@@ -101,13 +109,30 @@ fn all_cut(
         let Some(done) = dones.pop_front() else {
             break;
         };
-        all.push_reserved(Rewritten {
-            members: pids_of(alloc, group)?,
-            pieces: done.into_pieces(),
-            fresh: Vec::new(alloc),
-        });
+        all.push_reserved(rewritten_group(alloc, group, done)?);
     }
     Ok(all)
+}
+
+fn rewritten_group(
+    alloc: Global,
+    group: &[Seen<'_>],
+    done: GroupDone<'_>,
+) -> Result<Rewritten, AllocError>
+    ensures { IfOk result (λ r. r ≡ record {
+      members = map (λ x. x.pid) (all_seen group.now);
+      pieces = done.entry.made;
+      fresh = [];
+    }) }
+{
+    let members = pids_of(alloc, group)?;
+    let room = Vec::with_capacity(alloc, members.len())?;
+    Ok(Rewritten {
+        members,
+        pieces: done.into_pieces(),
+        fresh: Vec::new(alloc),
+        room,
+    })
 }
 
 fn pids_of(alloc: Global, group: &[Seen<'_>]) -> Result<Vec<Pid>, AllocError>
@@ -299,11 +324,12 @@ fn new_names(alloc: Global, all: &[Rewritten]) -> Result<Vec<Separator>, AllocEr
 // Appends the entries for these pages under these page ids.
 fn push_names(
     alloc: Global,
-    pages: &[Page<Global>],
+    pages: &[Box<PageInMemory<Global>>],
     pids: &[u64],
     names: &mut Vec<Separator>,
 ) -> Result<(), AllocError>
-    ensures { OnOk result (names.new.items ≡ names.old.items ++ named_pages pages.now pids.now) }
+    ensures { OnOk result (names.new.items ≡
+        names.old.items ++ named_pages (map (λ page. page_shown page.value) pages.now) pids.now) }
 {
     for (page, pid) in pages.iter().zip(pids) {
         names.push(Separator {
@@ -314,18 +340,46 @@ fn push_names(
     Ok(())
 }
 
+// The entries for these pages, the first one under the first member's page id.
+fn names_in(
+    alloc: Global,
+    pages: &[Box<PageInMemory<Global>>],
+    members: &[Pid],
+    fresh: &[u64],
+) -> Result<Vec<Separator>, AllocError>
+    ensures { IfOk result (λ names. names.items ≡
+        named_pages (map (λ page. page_shown page.value) pages.now) (take 1 members.now ++ fresh.now)) }
+{
+    let mut names = Vec::with_capacity(alloc, pages.len())?;
+    let others = match (pages, members.first()) {
+        ([first, others @ ..], Some(pid)) => {
+            names.push_reserved(Separator {
+                low: Key::from_bytes(alloc, first.low())?,
+                pid: *pid,
+            });
+            others
+        }
+        (pages, _) => pages,
+    };
+    push_names(alloc, others, fresh, &mut names)?;
+    Ok(names)
+}
+
 impl Rewritten {
-    /// The members, the new pages, and the page ids of all new pages except the first.
-    pub(crate) fn into_parts(self) -> (Vec<Pid>, Vec<Page<Global>>, Vec<u64>)
-        ensures { self ≡
-            record { members = result.0.items; pieces = result.1.items; fresh = result.2.items } }
+    /// The members, the new pages, the page ids of all new pages except the first, and room for the members' pages.
+    pub(crate) fn into_parts(self) -> (Vec<Pid>, NewPages, Vec<u64>, Vec<Page<Global>>)
+        ensures parts { self ≡
+            record { members = result.0.items; pieces = result.1; fresh = result.2.items } }
+        ensures room { (result.3.items ≡ []) × (vec_len result.3 ≡ 0) ×
+            (length result.0.items ≤ vec_capacity result.3) }
     {
         let Rewritten {
             members,
             pieces,
             fresh,
+            room,
         } = self;
-        (members, pieces, fresh)
+        (members, pieces, fresh, room)
     }
 
     /// The entries for all pages of the group, the first one under the first member's page id.
@@ -333,26 +387,15 @@ impl Rewritten {
         ensures { IfOk result (λ names. names.items ≡
             named_pages self.now.pieces (take 1 self.now.members ++ self.now.fresh)) }
     {
-        let mut names = Vec::with_capacity(alloc, self.pieces.len())?;
-        let others = match (self.pieces.as_slice(), self.members.first()) {
-            ([first, others @ ..], Some(pid)) => {
-                names.push_reserved(Separator {
-                    low: Key::from_bytes(alloc, first.low())?,
-                    pid: *pid,
-                });
-                others
-            }
-            (pieces, _) => pieces,
-        };
-        push_names(alloc, others, &self.fresh, &mut names)?;
-        Ok(names)
+        names_in(alloc, self.pieces.blanks(), &self.members, &self.fresh)
     }
 
-    // All new pages except the first: they need page ids of their own.
-    fn new_pieces(&self) -> &[Page<Global>]
-        ensures { result.now ≡ drop 1 self.now.pieces }
+    // All new pages except the first, without their values: they need page ids of their own.
+    fn new_pieces(&self) -> &[Box<PageInMemory<Global>>]
+        ensures { map (λ page. frame_in page.value) result.now
+            ≡ map frame_of (drop 1 self.now.pieces) }
     {
-        match self.pieces.as_slice() {
+        match self.pieces.blanks() {
             [] => &[],
             [_first, others @ ..] => others,
         }

@@ -1,18 +1,19 @@
 //! The changes of a climb to the mapping table: parents are checked out, updated and put back; at the end, pages are
 //! put back and groups are replaced by steps that cannot fail.
-ghost use Rattle.std.specs.Prelude.{◌≡◌, map, Some, None, IsSome, IfOk, OnErr, OnOk};
+ghost use Rattle.std.specs.Prelude.{◌≡◌, ◌+◌, ◌<◌, ◌≤◌, ◌++◌, [], map, length, Some, None, IsSome, vec_len, vec_capacity, IfOk, OnErr, OnOk};
 ghost use Rattle.std.specs.List.{AllByRecursion};
 ghost use Rattle.std.specs.Vec.Iter.{into_iter_items};
+ghost use Rattle.index_page.specs.InMemory.{page_shown};
 ghost use Rattle.mapping.specs.Proper.{Distinct, AreRisingPids};
 ghost use Rattle.page_runs.specs.TermWork.{index_made, term_held_of};
-ghost use Rattle.mapping.specs.Table.{page_of, place_of, with_place, log_outdated, pids_in_use};
-ghost use Rattle.climb_plan.specs.Installing.{all_taken, all_put, AreAway, AreParentsHome, parent_held, come_home, all_come_home, members_freed, put_under, group_installed, all_installed, CanInstall, CanInstallAll};
+ghost use Rattle.mapping.specs.Table.{page_of, place_of, with_place, pids_in_use};
+ghost use Rattle.climb_plan.specs.Installing.{all_taken, all_put, AreAway, AreParentsHome, parent_held, come_home, all_come_home, pages_under, members_freed, members_taken, put_under, group_installed, all_installed, CanInstall, CanInstallAll};
 
 use crate::change::Rewritten;
 use crate::seen::UpdatedPage;
 use crew::{Crew, Gate, Work, drop_all, run_round};
 use delta_chain::Run;
-use index_page::Page;
+use index_page::{Page, PageInMemory};
 use keys::{Pid, Settings};
 use mapping::Tree;
 use page_runs::{LeafRest, TermDone, TermJob, TermWork};
@@ -183,66 +184,89 @@ fn come_home<D: UpdatedPage>(tree: &mut Tree<Global>, done: D) -> Option<LeafRes
     rest
 }
 
-/// Puts the new pages of the groups into the tree, and frees the members that they replace. All members must be in the
-/// tree. Does not allocate.
-pub(crate) fn install_all(tree: &mut Tree<Global>, all: Vec<Rewritten>)
+/// Puts the new pages of the groups into the tree, with the values of the members that they replace, and frees these.
+/// All members must be in the tree. Does not allocate.
+pub(crate) fn install_all(alloc: Global, tree: &mut Tree<Global>, all: Vec<Rewritten>)
     requires { CanInstallAll tree.old.table all.items }
     ensures { tree.new ≡ record tree.old { table = all_installed tree.old.table all.items } }
 {
     for group in all {
-        install(tree, group);
+        install(alloc, tree, group);
     }
 }
 
 // Replaces the members of the group by its new pages. Does not allocate.
-fn install(tree: &mut Tree<Global>, group: Rewritten)
+fn install(alloc: Global, tree: &mut Tree<Global>, group: Rewritten)
     requires { CanInstall tree.old.table group }
     ensures { tree.new ≡ record tree.old { table = group_installed tree.old.table group } }
 {
-    let (members, pieces, fresh) = group.into_parts();
-    let mut rest = pieces.into_iter();
+    let (members, pieces, fresh, room) = group.into_parts();
+    let pages = take_members(tree, &members, room);
+    let mut rest = pieces.filled(alloc, pages).into_iter();
     let (Some(first), Some(piece)) = (members.first(), rest.next()) else {
         unreachable!()
     };
-    replace(tree, *first, piece);
-    free_members(tree, &members[1..]);
+    tree.put(*first, Page::of_memory(piece));
     put_pieces(tree, &fresh, rest);
 }
 
-// Replaces the page at `place`; its log state becomes outdated.
-fn replace(tree: &mut Tree<Global>, place: Pid, page: Page<Global>)
-    requires { IsSome (page_of tree.old.table place) }
-    ensures { tree.new ≡ record tree.old {
-      table = with_place (log_outdated tree.old.table place) place (Some page);
-    } }
+// Takes the pages of a group out of the tree. The first one's place stays, and its log state becomes outdated; the
+// other places are freed.
+fn take_members(
+    tree: &mut Tree<Global>,
+    members: &[Pid],
+    room: Vec<Page<Global>>,
+) -> Vec<Page<Global>>
+    requires some { 0 < length members.now }
+    requires home { AllByRecursion (λ pid. IsSome (page_of tree.old.table pid)) members.now ×
+        Distinct members.now }
+    requires room { (room.items ≡ []) × (vec_len room ≡ 0) ×
+        (length members.now ≤ vec_capacity room) }
+    ensures pages { result.items ≡ pages_under tree.old.table members.now }
+    ensures tree { tree.new ≡
+        record tree.old { table = members_taken tree.old.table members.now } }
 {
-    let _before = tree.take(place);
-    tree.outdate(place);
-    tree.put(place, page);
+    let [first, others @ ..] = members else {
+        unreachable!()
+    };
+    let mut pages = room;
+    pages.push_reserved(tree.take(*first));
+    tree.outdate(*first);
+    take_others(tree, others, &mut pages);
+    pages
 }
 
-fn free_members(tree: &mut Tree<Global>, pids: &[Pid])
-    requires { AllByRecursion (λ pid. IsSome (page_of tree.old.table pid)) pids.now ×
+// Takes these pages out of the tree and frees their places.
+fn take_others(tree: &mut Tree<Global>, pids: &[Pid], pages: &mut Vec<Page<Global>>)
+    requires home { AllByRecursion (λ pid. IsSome (page_of tree.old.table pid)) pids.now ×
         Distinct pids.now }
-    ensures { tree.new ≡ record tree.old { table = members_freed tree.old.table pids.now } }
+    requires room { vec_len pages.old + length pids.now ≤ vec_capacity pages.old }
+    ensures pages { pages.new.items ≡ pages.old.items ++ pages_under tree.old.table pids.now }
+    ensures tree { tree.new ≡
+        record tree.old { table = members_freed tree.old.table pids.now } }
 {
     for pid in pids {
-        let _gone = tree.take(*pid);
+        pages.push_reserved(tree.take(*pid));
         tree.free(*pid);
     }
 }
 
 /// Puts each page into its place, which has none.
-pub(crate) fn put_pieces(tree: &mut Tree<Global>, pids: &[u64], pages: IntoIter<Page<Global>>)
+pub(crate) fn put_pieces(
+    tree: &mut Tree<Global>,
+    pids: &[u64],
+    pages: IntoIter<Box<PageInMemory<Global>>>,
+)
     requires { AreAway tree.old.table pids.now }
-    ensures { tree.new ≡
-        record tree.old { table = put_under tree.old.table pids.now (into_iter_items pages) } }
+    ensures { tree.new ≡ record tree.old {
+      table = put_under tree.old.table pids.now (map (λ page. page_shown page.value) (into_iter_items pages));
+    } }
 {
     let mut rest = pages;
     for pid in pids {
         let Some(page) = rest.next() else {
             return;
         };
-        tree.put(Pid(*pid), page);
+        tree.put(Pid(*pid), Page::of_memory(page));
     }
 }

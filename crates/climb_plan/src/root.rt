@@ -1,6 +1,7 @@
 //! New levels above a root that was split.
-ghost use Rattle.std.specs.Prelude.{◌≡◌, ◌+◌, ◌<◌, ◌≤◌, Err, length, IfOk, OnErr};
+ghost use Rattle.std.specs.Prelude.{◌≡◌, ◌+◌, ◌<◌, ◌≤◌, Err, map, length, IfOk, OnErr};
 ghost use Rattle.keys.specs.Order.{IsRising};
+ghost use Rattle.index_page.specs.InMemory.{page_shown};
 ghost use Rattle.mapping.specs.Proper.{AreRisingPids};
 ghost use Rattle.mapping.specs.Table.{pids_in_use, fresh_pids, IsOldWithoutPlace};
 ghost use Rattle.mapping.specs.Tree.{most_levels};
@@ -11,7 +12,7 @@ ghost use Rattle.climb_plan.specs.declared.refused.Refused.TheVariants.{TooHigh}
 use crate::change::free_all;
 use crate::install::put_pieces;
 use crate::refused::Refused;
-use index_page::Page;
+use index_page::{Page, PageInMemory};
 use keys::{Key, Pid, Settings};
 use mapping::Tree;
 use mapping::laws::drawn_pids_get_places_that_are_away;
@@ -70,13 +71,14 @@ pub(crate) fn grow(
 fn draw_names(
     alloc: Global,
     tree: &mut Tree<Global>,
-    pages: &[Page<Global>],
+    pages: &[Box<PageInMemory<Global>>],
 ) -> Result<(Vec<u64>, Vec<Separator>), AllocError>
     requires rising { AreRisingPids (pids_in_use tree.old.table) }
     requires logs { IsOldWithoutPlace tree.old.table }
     ensures pids { IfOk result (λ drawn. drawn.0.items ≡
         fresh_pids (pids_in_use tree.old.table) (length pages.now)) }
-    ensures names { IfOk result (λ drawn. drawn.1.items ≡ named_pages pages.now drawn.0.items) }
+    ensures names { IfOk result (λ drawn. drawn.1.items ≡
+        named_pages (map (λ page. page_shown page.value) pages.now) drawn.0.items) }
     ensures drawn { IfOk result (λ drawn. AreDrawn tree.old tree.new drawn.0.items) }
     ensures err { OnErr result (tree.new ≡ tree.old) }
 {
@@ -106,11 +108,12 @@ fn draw(tree: &mut Tree<Global>, count: usize) -> Result<Vec<u64>, AllocError>
 // The entries of these pages under these page ids.
 fn names_of(
     alloc: Global,
-    pages: &[Page<Global>],
+    pages: &[Box<PageInMemory<Global>>],
     pids: &[u64],
 ) -> Result<Vec<Separator>, AllocError>
     requires { length pages.now ≡ length pids.now }
-    ensures { IfOk result (λ names. names.items ≡ named_pages pages.now pids.now) }
+    ensures { IfOk result (λ names. names.items ≡
+        named_pages (map (λ page. page_shown page.value) pages.now) pids.now) }
 {
     let mut names = Vec::with_capacity(alloc, pages.len())?;
     for at in 0..pages.len() {

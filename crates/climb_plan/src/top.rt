@@ -47,10 +47,11 @@ pub(crate) fn climb_root<D: UpdatedPage>(
     ensures high { IfErr result (λ e. e.0 ≡ Refused.TooHigh →
         IsTooHighFrom D.of settings.now tree.old (map D.seen_page dones.items) 0) }
 {
+    D::is_of_a_kind();
     match change_root(rt, crew, gate, alloc, settings, tree, &dones) {
         Ok((groups, root, height)) => {
             put_home(rt, crew, alloc, tree, dones);
-            install_all(tree, groups);
+            install_all(alloc, tree, groups);
             tree.set_root(root, height);
             Ok(())
         }

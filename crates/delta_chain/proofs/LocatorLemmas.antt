@@ -660,11 +660,14 @@ module _ {V : Type 0} where
   said_change runs q None h = sym h
   said_change runs q (Some l) h = ap (λ (rs : List (Changes V)). Some (change_at rs l)) (sym (reverse-reverse runs)) ∙ sym h.0
 
+  pub rising_changes : (runs : List (Changes V)) (ls : List Locator) → AreNewest (keys_of_runs runs) ls → IsRising (changes_of runs ls)
+  rising_changes runs ls h = rw (keys_of-changes_of runs ls) (rising-listed (keys_of_runs runs) ls h)
+
   -- those at the newest locators are the merged changes
-  pub changes_joined : (runs : List (Changes V)) (ls : List Locator) → AreNewest (keys_of_runs runs) ls → AllRise {V = V} (reverse runs) [] → changes_of runs ls ≡ joined_changes (reverse runs)
+  changes_joined : (runs : List (Changes V)) (ls : List Locator) → AreNewest (keys_of_runs runs) ls → AllRise {V = V} (reverse runs) [] → changes_of runs ls ≡ joined_changes (reverse runs)
   changes_joined runs ls h a =
       let says_at = said runs [] a in
-      same_map (changes_of runs ls) (joined_changes (reverse runs)) (rw (keys_of-changes_of runs ls) (rising-listed (keys_of_runs runs) ls h)) (rising-joined_changes (reverse runs) [] a)
+      same_map (changes_of runs ls) (joined_changes (reverse runs)) (rising_changes runs ls h) (rising-joined_changes (reverse runs) [] a)
       (λ q. value_at-changes_of runs ls q ∙ ap (λ (es : Pairs Locator). ChangeOf runs (value_at q es)) h.keys ∙ said_change runs q (value_at q (newest_locators (reverse (keys_of_runs runs)))) (says_at q))
 
 -- ---- the places of the list
@@ -810,14 +813,26 @@ module _ {V : Type 0} where
   pub key_change : (runs : List (Changes V)) (ls : List Locator) (at : ℕ) (l : Locator) → slice_get ls at ≡ Some l → slice_get (keys_of (changes_of runs ls)) at ≡ Some (key_at (keys_of_runs runs) l)
   key_change runs ls at l h = rw (keys_of-changes_of runs ls) (key_keyed (keys_of_runs runs) ls at l h)
 
-  pub item_change : (runs : List (Changes V)) (ls : List Locator) (at : ℕ) (l : Locator) → slice_get ls at ≡ Some l → slice_get (values_of (changes_of runs ls)) at ≡ Some (change_at runs l)
-  item_change runs [] at l h = absurd (cc)
-  item_change runs (m ∷ ls) zero l h = let s : m ≡ l = cc in ap (λ (x : Locator). Some (change_at runs x)) s
-  item_change runs (m ∷ ls) (suc at) l h = item_change runs ls at l h
+  pub key_of_change : (runs : List (Changes V)) (ls : List Locator) (at : ℕ) (l : Locator) (k : Bytes) → slice_get ls at ≡ Some l → slice_get (keys_of (changes_of runs ls)) at ≡ Some k → key_at (keys_of_runs runs) l ≡ k
+  key_of_change runs ls at l k s h = by (key_at (keys_of_runs runs) l) (sym (key_change runs ls at l s) ∙ h)
+    where
+      by : (j : Bytes) → Some j ≡ Some k → j ≡ k
+      by j e = cc
 
   pub length-changes_of : (runs : List (Changes V)) (ls : List Locator) → length (changes_of runs ls) ≡ length ls
   length-changes_of runs [] = refl
   length-changes_of runs (l ∷ ls) = ap suc (length-changes_of runs ls)
+
+  pub within_changes : (runs : List (Changes V)) (ls : List Locator) (at : ℕ) → at < length (changes_of runs ls) → at < length ls
+  within_changes runs ls at h = let many = length-changes_of runs ls in omega (arith, h, many)
+
+  pub within_keys : (runs : List (Changes V)) (ls : List Locator) (at : ℕ) → at < length (keys_of (changes_of runs ls)) → at < length ls
+  within_keys runs ls at h = let many = length-keys_of (changes_of runs ls) in within_changes runs ls at (omega (arith, h, many))
+
+  pub item_change : (runs : List (Changes V)) (ls : List Locator) (at : ℕ) (l : Locator) → slice_get ls at ≡ Some l → slice_get (values_of (changes_of runs ls)) at ≡ Some (change_at runs l)
+  item_change runs [] at l h = absurd (cc)
+  item_change runs (m ∷ ls) zero l h = let s : m ≡ l = cc in ap (λ (x : Locator). Some (change_at runs x)) s
+  item_change runs (m ∷ ls) (suc at) l h = item_change runs ls at l h
 
 -- all of a list, if nothing is left after a place
 pub made_all : {X : Type 0} (out es : List X) (at : ℕ) → length es ≤ at → out ++ drop at es ≡ es → out ≡ es
@@ -830,11 +845,11 @@ made_all {X} out es at n t = sym (append-nil out) ∙ ap (λ (xs : List X). out 
     past (x ∷ xs) (suc n) h = let l : length xs ≤ n = omega arith in past xs n l
 
 module _ {V : Type 0} (runs : List (Changes V)) (base : Pairs V) (ls : List Locator) (h : AreNewest (keys_of_runs runs) ls) (a : AllRise (reverse runs) base) where
-  pub rising_changes : IsRising (changes_of runs ls)
-  rising_changes = rw (keys_of-changes_of runs ls) (rising-listed (keys_of_runs runs) ls h)
+  pub changes_of_page : changes_of runs ls ≡ joined_changes (reverse runs)
+  changes_of_page = changes_joined runs ls h (none_below (reverse runs) base a)
 
   pub entries_changes : with_run base (changes_of runs ls) ≡ entries_under (reverse runs) base
-  entries_changes = ap (λ (cs : Changes V). with_run base cs) (changes_joined runs ls h (none_below (reverse runs) base a)) ∙ entries-joined_changes (reverse runs) base a
+  entries_changes = ap (λ (cs : Changes V). with_run base cs) changes_of_page ∙ entries-joined_changes (reverse runs) base a
 
 -- ---- a cell exchanged by the list
 

@@ -1,5 +1,5 @@
 //! The state of a page: runs in front of a base, owned (`Chain`) or borrowed (`ChainRef`).
-ghost use Rattle.std.specs.Prelude.{◌≡◌, ◌<◌, ◌≤◌, ◌+◌, ◌-◌, ◌∷◌, [], false, List, is_some, length, min, take, drop, reverse, vec_len, vec_capacity, if◌then◌else◌, OnOk, OnErr, IfOk, IfErr, MatchOption};
+ghost use Rattle.std.specs.Prelude.{◌≡◌, ◌<◌, ◌≤◌, ◌+◌, ◌-◌, ◌∷◌, [], false, List, is_some, length, min, take, drop, reverse, vec_len, vec_capacity, if◌then◌else◌, OnOk, OnErr, IfOk, IfErr, IfSome, MatchOption};
 ghost use Rattle.std.specs.List.{sum_by};
 ghost use Rattle.std.specs.Option.{option_copied, unwrap_or};
 ghost use Rattle.keys.specs.Bytes.{Bytes};
@@ -7,9 +7,11 @@ ghost use Rattle.keys.specs.Order.{IsRising};
 ghost use Rattle.keys.specs.OrderedMap.{value_at};
 ghost use Rattle.delta_chain.specs.Exchange.{exchanged, exchanged_under};
 ghost use Rattle.delta_chain.specs.Located.{keys_of_runs};
+ghost use Rattle.delta_chain.specs.Merging.{joined_changes};
 ghost use Rattle.delta_chain.specs.Layers.{Layers, holds, held_under, entries_of, depth_of, IsInOrder};
 
 use crate::base::Base;
+use crate::change_list::ChangeList;
 use crate::locators::{Locator, add_newest, lent_changes, locate, locate_near, remove_newest};
 use crate::merging::{copied, lent_base, merged, with_run};
 use crate::pairs::Pairs;
@@ -282,6 +284,16 @@ impl<V, A: Allocator + Copy> Chain<V, A> {
         ensures { result.now ≡ self.now.base }
     {
         &self.base
+    }
+
+    /// Returns the merged changes of all runs, or `None` if there are very many runs.
+    pub fn newest_changes(&self) -> Option<ChangeList<'_, V, A>>
+        ensures { IfSome result (λ changes. changes ≡ joined_changes self.now.runs) }
+    {
+        match &self.list {
+            Some(locators) => Some(ChangeList::new(&self.runs, locators)),
+            None => None,
+        }
     }
 
     /// Returns the page's entries, borrowed, in key order: the keys that are present, with their cells. `Err` means

@@ -7,6 +7,7 @@
 mod base;
 mod builder;
 mod chain;
+mod change_list;
 mod entries;
 mod key_list;
 mod late;
@@ -19,6 +20,7 @@ mod run;
 pub use crate::base::Base;
 pub use crate::builder::{BaseBuilder, PushError};
 pub use crate::chain::{Chain, ChainRef, EntryBounds, Guess};
+pub use crate::change_list::ChangeList;
 pub use crate::key_list::KeyList;
 pub use crate::late::LazyChain;
 pub use crate::pairs::{Pairs, blank_base, copied_base};

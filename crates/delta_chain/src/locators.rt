@@ -54,11 +54,18 @@ impl Locator {
         }
     }
 
-    fn key<V, A: Allocator + Copy>(self, runs: &[Run<V, A>]) -> &[u8]
+    pub(crate) fn key<V, A: Allocator + Copy>(self, runs: &[Run<V, A>]) -> &[u8]
         requires { IsIn (keys_of_runs runs.now) self }
         ensures { result.now ≡ key_at (keys_of_runs runs.now) self }
     {
         runs[self.run as usize].key(self.at as usize)
+    }
+
+    pub(crate) fn key_ref<V, A: Allocator + Copy>(self, runs: &[Run<V, A>]) -> KeyRef<'_>
+        requires { IsIn (keys_of_runs runs.now) self }
+        ensures { result ≡ key_at (keys_of_runs runs.now) self }
+    {
+        KeyRef::of_word(self.word, self.key(runs))
     }
 
     fn item<V, A: Allocator + Copy>(self, runs: &[Run<V, A>]) -> &Option<V>
@@ -94,7 +101,11 @@ impl Locator {
 
     // Compares the key at this place to `key`.
     #[inline]
-    fn compare<V, A: Allocator + Copy>(self, runs: &[Run<V, A>], key: &KeyRef<'_>) -> Ordering
+    pub(crate) fn compare<V, A: Allocator + Copy>(
+        self,
+        runs: &[Run<V, A>],
+        key: &KeyRef<'_>,
+    ) -> Ordering
         requires { IsIn (keys_of_runs runs.now) self }
         ensures { result ≡ order (key_at (keys_of_runs runs.now) self) key.now }
     {

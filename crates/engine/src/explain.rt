@@ -44,14 +44,15 @@ pub fn remedy(fault: &Fault) -> &'static str {
             "Use a shorter value, or copy the store with a larger max_value in its settings."
         }
         Fault::BadCrew => "There are 1 to 64 workers, and the grain is 1 to 65535.",
-        Fault::BatchTooLong => "Divide the batch.",
+        Fault::BatchTooLong => "Divide the batch or its wipes.",
         Fault::NoMemory => "Smaller batches need less.",
         Fault::Failed | Fault::Device => {
-            "Open the store again. It then has the pairs of the last flush that succeeded, or of the flush that failed."
+            "Make room if the device is full, and open the store again. It then has the pairs of the last flush that \
+            succeeded, or of the flush that failed."
         }
         Fault::Full => {
-            "Clean the log, as the flush of a handle does by itself. If it stays full, copy the store to a disk with more \
-            segments."
+            "The flush of a handle has cleaned the log; otherwise clean it. If it is still full, copy the store to a disk \
+            with more segments."
         }
         _ => "",
     }
@@ -60,7 +61,7 @@ pub fn remedy(fault: &Fault) -> &'static str {
 /// Returns what to do if a file cannot be used for this reason, or an empty string if there is no advice.
 pub fn file_remedy(reason: &io::Error) -> &'static str {
     match reason.kind() {
-        ErrorKind::ReadOnlyFilesystem => "A session can only read the store there.",
+        ErrorKind::ReadOnlyFilesystem => "The store can only be opened for reading there.",
         ErrorKind::WouldBlock => "Another program has locked the file. Wait until it ends.",
         ErrorKind::AlreadyExists => "A new store needs a path without a file.",
         ErrorKind::StorageFull => "Free some space on its device.",

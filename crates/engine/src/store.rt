@@ -43,8 +43,8 @@ use verify::Report;
 /// A store of keys and values: a tree of pages in a mapping table, with a log on a disk. Contracts see it as a `State`.
 /// Its invariant holds for every store, whatever the disk does.
 ///
-/// After a call of the disk has failed in a flush, an upgrade or a clean, every later batch, flush, upgrade and clean
-/// fails with `Fault::Failed`.
+/// After a call of the disk has failed in a flush, an upgrade, a clean or the `reopen` of a handle, every later batch,
+/// flush, upgrade and clean fails with `Fault::Failed`.
 ///
 /// A call that takes a disk or the store itself returns it with the fault, as `Err((fault, disk))`. In a function that
 /// returns a `Fault`, `?` takes the fault and drops the disk. In a function with another error, such as `anyhow::Error`,

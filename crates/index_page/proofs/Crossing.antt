@@ -5,6 +5,7 @@ use denote.Struct.Declared.{shape}
 use denote.Enum.Declared as variants
 use denote.Param.Send.{IsSend, IsSync, Frees, view_send, view_sync, recorded_send, recorded_sync, struct_send, struct_sync, enum_send, enum_sync}
 use Rattle.std.specs.declared.alloc.Allocator.{Ghosts}
+use Rattle.std.proofs.CrossingOver.{crosses}
 use Rattle.keys.specs.contracts.value.Value as Value
 use Rattle.keys.proofs.key.Key.TheSendSync as key
 use Rattle.keys.proofs.value.Value.TheSendSync as value
@@ -26,7 +27,7 @@ module _ (A : RattleType) (g : Ghosts A.Denot) where
   PageInMemory-send s f = view_send _ _ _ _ _ (recorded_send _ _ _ (held.the_type A g).to_one (struct_send (shape (held.the_type A g)) (key.the_send A g s f, (state_send s f, tt))))
 
   pub Page-send : IsSend A → Frees g g.dealloc_token → IsSend (Page.the_row A g)
-  Page-send s f = view_send _ _ _ _ _ (recorded_send _ _ _ (inside.the_type A g).to_one (struct_send (shape (inside.the_type A g)) (PageInMemory-send s f, tt)))
+  Page-send s f = let page : IsSend (PageInMemory.the_row A g) = PageInMemory-send s f in view_send _ _ _ _ _ (recorded_send _ _ _ (inside.the_type A g).to_one (struct_send (shape (inside.the_type A g)) (search crosses, tt)))
 
   state_sync : IsSync A → IsSync (State.the_field A g).row
   state_sync s =
@@ -37,4 +38,4 @@ module _ (A : RattleType) (g : Ghosts A.Denot) where
   PageInMemory-sync s = view_sync _ _ _ _ _ (recorded_sync _ _ _ (held.the_type A g).to_one (struct_sync (shape (held.the_type A g)) (key.the_sync A g s, (state_sync s, tt))))
 
   pub Page-sync : IsSync A → IsSync (Page.the_row A g)
-  Page-sync s = view_sync _ _ _ _ _ (recorded_sync _ _ _ (inside.the_type A g).to_one (struct_sync (shape (inside.the_type A g)) (PageInMemory-sync s, tt)))
+  Page-sync s = let page : IsSync (PageInMemory.the_row A g) = PageInMemory-sync s in view_sync _ _ _ _ _ (recorded_sync _ _ _ (inside.the_type A g).to_one (struct_sync (shape (inside.the_type A g)) (search crosses, tt)))

@@ -7,3 +7,4 @@ pub mod MeetingLemmas
 pub mod PageLemmas
 pub mod RangeLemmas
 pub mod RuleLemmas
+mod MemoryLemmas

@@ -1,5 +1,5 @@
 //! Pages of either kind: a low key and a chain.
-ghost use Rattle.std.specs.Prelude.{◌≡◌, ℕ, ◌∷◌, [], true, ◌↔◌, Option, map, MatchOption, IsTrue};
+ghost use Rattle.std.specs.Prelude.{◌≡◌, ℕ, ◌∷◌, [], true, ◌↔◌, Option, map, MatchOption, IsTrue, IfOk};
 ghost use Rattle.std.specs.List.{filter};
 ghost use Rattle.std.specs.Option.{option_copied, option_map, option_or};
 ghost use Rattle.keys.specs.Bytes.{Bytes};
@@ -18,14 +18,14 @@ use crate::in_memory::PageInMemory;
 use crate::within::{Children, NextChild};
 use delta_chain::{Base, Chain, LazyChain};
 use keys::{Key, Pid, Value, is_before};
-use std::alloc::Allocator;
+use std::alloc::{AllocError, Allocator};
 use std::marker::Model;
 
 /// A page of the tree: its low key, at which its range of keys begins, and a chain of values for a leaf or of page ids
-/// for an index page. Contracts see it as a `PageOfKind`.
+/// for an index page. It is boxed, so that moving it moves one pointer. Contracts see it as a `PageOfKind`.
 #[derive(Drop)]
 pub struct Page<A: Allocator> {
-    held: PageInMemory<A>,
+    held: Box<PageInMemory<A>, A>,
 }
 
 impl<A: Allocator> Model for Page<A> {
@@ -34,13 +34,13 @@ impl<A: Allocator> Model for Page<A> {
 
     ghost Value = { PageOfKind };
 
-    ghost view = { λ p. page_shown p.held };
+    ghost view = { λ p. page_shown p.held.value };
 }
 
 impl<A: Allocator + Copy> Page<A> {
-    /// Makes the page that `held` represents.
-    pub fn of_memory(held: PageInMemory<A>) -> Self
-        ensures { result ≡ page_shown held }
+    /// Makes the page that `held` represents. Does not allocate.
+    pub fn of_memory(held: Box<PageInMemory<A>, A>) -> Self
+        ensures { result ≡ page_shown held.value }
     {
         Page { held }
     }
@@ -49,44 +49,45 @@ impl<A: Allocator + Copy> Page<A> {
     pub fn in_memory(&self) -> &PageInMemory<A>
         ensures { page_shown result.now ≡ self.now }
     {
-        &self.held
+        self.held.as_ref()
     }
 
-    /// Converts the page into its representation in memory.
-    pub fn into_memory(self) -> PageInMemory<A>
-        ensures { page_shown result ≡ self }
+    /// Converts the page into its representation in memory. Does not allocate.
+    pub fn into_memory(self) -> Box<PageInMemory<A>, A>
+        ensures { page_shown result.value ≡ self }
     {
         self.held
     }
 
-    /// Makes a leaf with this low key and these values.
-    pub fn leaf(low: Key<A>, chain: Chain<Value<A>, A>) -> Self
-        ensures { result ≡ Leaf (record { low = low; layers = chain }) }
+    /// Makes a leaf with this low key and these values. `Err` means that allocation failed.
+    pub fn leaf(alloc: A, low: Key<A>, chain: Chain<Value<A>, A>) -> Result<Self, AllocError>
+        ensures { IfOk result (λ page. page ≡ Leaf (record { low = low; layers = chain })) }
     {
-        Page::lazy_leaf(low, LazyChain::of(chain))
-    }
-
-    /// Makes a leaf with this low key and these values, some of whose runs may count as merged into the base.
-    pub fn lazy_leaf(low: Key<A>, chain: LazyChain<Value<A>, A>) -> Self
-        ensures { result ≡ Leaf (record { low = low; layers = seen chain }) }
-    {
-        Page::of_memory(PageInMemory::leaf(low, chain))
+        let held = Box::new(alloc, PageInMemory::leaf(low, LazyChain::of(chain)))?;
+        Ok(Page { held })
     }
 
     /// Makes an index page with this low key and the page ids of its children, each under the child's low key. `list`
-    /// is `ChildList::of` the chain.
-    pub fn index(low: Key<A>, chain: Chain<Pid, A>, list: ChildList<A>) -> Self
+    /// is `ChildList::of` the chain. `Err` means that allocation failed.
+    pub fn index(
+        alloc: A,
+        low: Key<A>,
+        chain: Chain<Pid, A>,
+        list: ChildList<A>,
+    ) -> Result<Self, AllocError>
         requires { IsListOf chain list }
-        ensures { result ≡ Index (record { low = low; layers = chain }) }
+        ensures { IfOk result (λ page. page ≡ Index (record { low = low; layers = chain })) }
     {
-        Page::of_memory(PageInMemory::index(low, chain, list))
+        let held = Box::new(alloc, PageInMemory::index(low, chain, list))?;
+        Ok(Page { held })
     }
 
-    /// Makes an index page with this low key and this base of children, without runs.
-    pub fn bare_index(low: Key<A>, base: Base<Pid, A>) -> Self
-        ensures { result ≡ Index (bare low base) }
+    /// Makes an index page with this low key and this base of children, without runs. `Err` means that allocation
+    /// failed.
+    pub fn bare_index(alloc: A, low: Key<A>, base: Base<Pid, A>) -> Result<Self, AllocError>
+        ensures { IfOk result (λ page. page ≡ Index (bare low base)) }
     {
-        Page::index(low, Chain::of_base(base), ChildList::none())
+        Page::index(alloc, low, Chain::of_base(base), ChildList::none())
     }
 
     /// Returns the bytes of the low key.
@@ -120,21 +121,23 @@ impl<A: Allocator + Copy> Page<A> {
         self.held.child_list()
     }
 
-    /// Returns the low key and the values of a leaf. Test with `as_leaf` first.
-    pub fn into_leaf(self) -> (Key<A>, LazyChain<Value<A>, A>)
-        requires { IsLeaf self }
-        ensures { self ≡ Leaf (record { low = result.0; layers = seen result.1 }) }
+    /// Takes the page ids and the list of children out of an index page, to be replaced by `put_index`. Test with
+    /// `as_index` first. Does not allocate.
+    pub fn take_index(&mut self, alloc: A) -> (Chain<Pid, A>, ChildList<A>)
+        requires { IsIndex self.old }
+        ensures page { self.old ≡ Index (record { low = low_of self.old; layers = result.0 }) }
+        ensures low { low_of self.new ≡ low_of self.old }
+        ensures list { IsListOf result.0 result.1 }
     {
-        self.held.into_leaf()
+        self.held.take_index(alloc)
     }
 
-    /// Returns the low key, the page ids and the list of children of an index page. Test with `as_index` first.
-    pub fn into_index(self) -> (Key<A>, Chain<Pid, A>, ChildList<A>)
-        requires { IsIndex self }
-        ensures page { self ≡ Index (record { low = result.0; layers = result.1 }) }
-        ensures list { IsListOf result.1 result.2 }
+    /// Makes the page an index page with these page ids; `list` is `ChildList::of` the chain. The low key stays.
+    pub fn put_index(&mut self, chain: Chain<Pid, A>, list: ChildList<A>)
+        requires { IsListOf chain list }
+        ensures { self.new ≡ Index (record { low = low_of self.old; layers = chain }) }
     {
-        self.held.into_index()
+        self.held.put_index(chain, list);
     }
 
     /// Returns whether this is an index page with a child whose low key is not above `key`: the condition of

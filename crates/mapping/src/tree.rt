@@ -197,14 +197,14 @@ pub fn new_tree<A: Allocator + Copy>(alloc: A) -> Result<Tree<A>, AllocError>
 {
     let mut table = Table::new(alloc);
     table.room(0)?;
-    table.put(0, empty_leaf(alloc));
+    table.put(0, empty_leaf(alloc)?);
     table.flushed();
     Ok(Tree::new(table, Pid(0), 1))
 }
 
-/// Returns a leaf without entries. Does not allocate.
-pub fn empty_leaf<A: Allocator + Copy>(alloc: A) -> Page<A>
-    ensures { result ≡ Leaf (bare [] []) }
+/// Returns a leaf without entries. `Err` means that allocation failed.
+pub fn empty_leaf<A: Allocator + Copy>(alloc: A) -> Result<Page<A>, AllocError>
+    ensures { IfOk result (λ page. page ≡ Leaf (bare [] [])) }
 {
-    Page::leaf(Key::empty(alloc), Chain::of_base(Base::empty(alloc)))
+    Page::leaf(alloc, Key::empty(alloc), Chain::of_base(Base::empty(alloc)))
 }

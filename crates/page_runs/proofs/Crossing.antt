@@ -13,8 +13,8 @@ use Rattle.keys.proofs.value.Value.TheSendSync as value
 use Rattle.delta_chain.proofs.Crossing.{Chain-send}
 use Rattle.delta_chain.proofs.run.Run.TheSendSync as run
 use Rattle.index_page.proofs.Crossing.{PageInMemory-send}
+use Rattle.index_page.specs.contracts.in_memory.PageInMemory as PageInMemory
 use Rattle.routing.proofs.page_run.PageRun.TheSendSync as page_run
-use Rattle.page_runs.specs.contracts.leaf_work.KeptDone as KeptDone
 use Rattle.page_runs.specs.contracts.leaf_work.LeafDone as LeafDone
 use Rattle.page_runs.specs.contracts.leaf_work.LeafDone.TheInside as inside
 use Rattle.page_runs.specs.contracts.leaf_after.LeafWayBack as LeafWayBack
@@ -27,26 +27,26 @@ values = Value.the_row Global.the_row ghosts
 values_send : IsSend values
 values_send = value.the_send Global.the_row ghosts heap.send heap.frees
 
-way_back_send : IsSend (WayBack.the_field values).row
-way_back_send = enum_send (variants.shape (WayBack.the_type values)) (
+way_back_send : IsSend (WayBack.the_row values)
+way_back_send = recorded_send _ _ _ (WayBack.the_type values).to_one (enum_send (variants.shape (WayBack.the_type values)) (
   (run.the_send values Global.the_row ghosts values_send heap.send heap.frees, tt),
   (tt, ((class.the_field_send, (Chain-send values Global.the_row ghosts values_send heap.send heap.frees, tt)), tt)),
-)
+))
 
 usize_send : IsSend usize
 usize_send = search sendable
 
 leaf_way_back_send : IsSend LeafWayBack.the_field.row
 leaf_way_back_send = enum_send (variants.shape LeafWayBack.the_type) (
-  (run.the_send values Global.the_row ghosts values_send heap.send heap.frees, tt),
-  (tt, ((class.the_field_send, (usize_send, tt)), ((way_back_send, (usize_send, tt)), tt))),
+  tt,
+  (tt, ((class.the_field_send, (usize_send, tt)), ((heap.Box-send (WayBack.the_row values) way_back_send, (usize_send, tt)), tt))),
 )
 
-kept_send : IsSend KeptDone.the_row
-kept_send = recorded_send _ _ _ KeptDone.the_type.to_one (struct_send (shape KeptDone.the_type) (
-  PageInMemory-send Global.the_row ghosts heap.send heap.frees,
-  (leaf_way_back_send, (page_run.the_send, (pieces.the_send Global.the_row ghosts heap.send heap.frees, tt))),
-))
+page_send : IsSend (PageInMemory.the_row Global.the_row ghosts)
+page_send = PageInMemory-send Global.the_row ghosts heap.send heap.frees
 
 pub done_send : IsSend LeafDone.the_row
-done_send = view_send _ _ _ _ _ (recorded_send _ _ _ inside.the_type.to_one (struct_send (shape inside.the_type) (heap.Box-send KeptDone.the_row kept_send, tt)))
+done_send = view_send _ _ _ _ _ (recorded_send _ _ _ inside.the_type.to_one (struct_send (shape inside.the_type) (
+  heap.Box-send (PageInMemory.the_row Global.the_row ghosts) page_send,
+  (leaf_way_back_send, (page_run.the_send, (pieces.the_send Global.the_row ghosts heap.send heap.frees, tt))),
+)))

@@ -7,19 +7,17 @@ use Rattle.keys.specs.Step.{replies_to}
 use Rattle.keys.specs.declared.command.Command.{Command}
 use Rattle.keys.specs.declared.piece.Piece.{Piece}
 use Rattle.keys.specs.declared.settings.Settings.{Settings}
-use Rattle.crew.specs.Turn.{IfDone}
-use Rattle.crew.specs.declared.Turn.{Turn}
-use Rattle.crew.specs.declared.Turn.TheVariants.{Done, Back}
 use Rattle.delta_chain.specs.Lazy.{Lazy, seen}
 use Rattle.delta_chain.specs.Layers.{Layers, entries_of}
 use Rattle.delta_chain.proofs.LazyLemmas.{entries-seen}
+use Rattle.index_page.specs.InMemory.{InMemory, page_shown, lazy_of}
 use Rattle.index_page.specs.InMemory.InMemory.{LeafInMemory}
 use Rattle.index_page.specs.Page.{PageOfKind}
 use Rattle.index_page.specs.Page.PageOfKind.{Leaf}
 use Rattle.routing.specs.Routes.{Route}
 use Rattle.page_runs.specs.AfterRun.{after_run, class_after, is_replaced}
 use Rattle.page_runs.specs.LeafOutcome.{leaf_class_now, is_leaf_replaced_now}
-use Rattle.page_runs.specs.LeafWork.{LeafMade, LeafUpdate, leaf_made, leaf_updated}
+use Rattle.page_runs.specs.LeafWork.{LeafMade, leaf_made, leaf_updated}
 use Rattle.page_runs.specs.NetRun.{net_run}
 use Rattle.page_runs.specs.Replies.{commands_at, pieces_of}
 use Rattle.page_runs.specs.declared.class.Class.{Class}
@@ -62,7 +60,19 @@ module _ (s : Settings) (batch : List (Command Global)) (route : Route) (low : B
       (said ∙ ap (λ (es : Pairs Bytes). pieces_of route.places (replies_to es (commands_at batch route.places))) same)
       ∙ sym (ap (λ (p : PageOfKind). leaf_made s batch (record { page = p; route = route })) is)
 
--- properties of a leaf's output hold for the output of the job
-pub done_made : {J : Type 0} (turn : Turn J LeafUpdate) (leaf : LeafUpdate) (made : LeafMade) → IfDone turn (λ done. done ≡ leaf) → leaf.made ≡ made → IfDone turn (λ done. done.made ≡ made)
-done_made (Done d) leaf made h e = ap (λ (w : LeafUpdate). w.made) h ∙ e
-done_made (Back j) leaf made h e = tt
+-- the same where the run was put on the leaf in place: old and new are the leaf in memory before and after
+module _ (s : Settings) (batch : List (Command Global)) (route : Route) (low : Bytes) (leaf : Lazy Bytes) (old new : InMemory) (way_back : LeafWayBack) (job : PageOfKind) where
+  pub made_in_place : (whole : Layers Bytes) (run : Changes Bytes) (pieces : List (Piece Global))
+      → page_shown old ≡ job → old ≡ LeafInMemory low leaf → whole ≡ leaf.chain
+      → run ≡ net_run (entries_of whole) (commands_at batch route.places) → pieces ≡ pieces_of route.places (replies_to (entries_of whole) (commands_at batch route.places))
+      → new ≡ LeafInMemory low (lazy_of new) → seen (lazy_of new) ≡ after_run s (seen (lazy_of old)) run
+      → leaf_class_now way_back ≡ class_after s (seen (lazy_of old)) run → is_leaf_replaced_now way_back ≡ is_replaced s (seen (lazy_of old)) run
+      → (leaf_updated new way_back route pieces).made ≡ leaf_made s batch (record { page = job; route = route })
+  made_in_place whole run pieces shown is memory ran said now page class replaced =
+      let same : lazy_of old ≡ leaf = ap (λ (m : InMemory). lazy_of m) is in
+      ap (λ (m : InMemory). (leaf_updated m way_back route pieces).made) now
+      ∙ made_in_memory s batch route low leaf (lazy_of new) way_back job whole run pieces
+      (sym shown ∙ ap (λ (m : InMemory). page_shown m) is) memory ran said
+      (page ∙ ap (λ (c : Lazy Bytes). after_run s (seen c) run) same)
+      (class ∙ ap (λ (c : Lazy Bytes). class_after s (seen c) run) same)
+      (replaced ∙ ap (λ (c : Lazy Bytes). is_replaced s (seen c) run) same)

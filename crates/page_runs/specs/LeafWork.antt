@@ -1,13 +1,13 @@
 -- The input and the output of the work on a leaf.
-use Rattle.std.specs.Prelude.{List, []}
+use Rattle.std.specs.Prelude.{List}
 use Rattle.std.specs.declared.alloc.Global.{Global}
 use Rattle.keys.specs.Bytes.{Bytes}
 use Rattle.keys.specs.Step.{replies_to}
 use Rattle.keys.specs.declared.command.Command.{Command}
 use Rattle.keys.specs.declared.piece.Piece.{Piece}
 use Rattle.keys.specs.declared.settings.Settings.{Settings}
-use Rattle.delta_chain.specs.Lazy.{Lazy, seen}
-use Rattle.index_page.specs.InMemory.{InMemory, page_shown}
+use Rattle.delta_chain.specs.Lazy.{seen}
+use Rattle.index_page.specs.InMemory.{InMemory, page_shown, lazy_of}
 use Rattle.index_page.specs.InMemory.InMemory.{LeafInMemory, IndexInMemory}
 use Rattle.index_page.specs.Page.{PageOfKind, IsLeaf, leaf_of, entries}
 use Rattle.index_page.specs.Page.PageOfKind.{Leaf}
@@ -59,11 +59,6 @@ leaf_held_of j = record { page = j.page; route = j.page_run }
 pub record LeafUpdate : Type 0 where
   pub held : LeafHeld
   pub made : LeafMade
-
--- the values of a leaf in memory; an index page counts as an empty leaf
-abbrev pub lazy_of : InMemory → Lazy Bytes
-lazy_of (LeafInMemory low c) = c
-lazy_of (IndexInMemory low p) = record { chain = record { runs = []; base = [] }; merged_runs = 0 }
 
 -- the work on a leaf, from the leaf now and what undoes the run
 abbrev pub leaf_updated : InMemory → LeafWayBack → Route → List (Piece Global) → LeafUpdate

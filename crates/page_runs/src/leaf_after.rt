@@ -1,9 +1,12 @@
 //! Prepends a run to a leaf, and undoes it. A leaf that must be replaced only counts as replaced: its runs are merged
 //! when too much would lie over the old base, or when the class of the leaf does not follow from the bounds on its
 //! number of entries.
-ghost use Rattle.std.specs.Prelude.{◌≡◌, ◌<◌, ◌≤◌, ℕ, [], true, length, min, IfOk, IfErr, IfSome};
+ghost use Rattle.std.specs.Prelude.{◌≡◌, ◌<◌, ◌≤◌, ℕ, [], true, length, min, IfOk, IfErr, IfSome, OnOk, OnErr};
 ghost use Rattle.delta_chain.specs.Lazy.{seen};
 ghost use Rattle.delta_chain.specs.Layers.{entries_of, with_run};
+ghost use Rattle.index_page.specs.InMemory.{page_shown, lazy_of};
+ghost use Rattle.index_page.specs.InMemory.InMemory.{LeafInMemory};
+ghost use Rattle.index_page.specs.Page.{low_of, IsLeaf};
 ghost use Rattle.page_runs.specs.AfterRun.{must_replace, after_run, class_after, class_of_size, is_replaced};
 ghost use Rattle.page_runs.specs.LeafOutcome.{leaf_before, without_newest, CanUndoLeaf, leaf_class_now, is_leaf_replaced_now};
 
@@ -11,8 +14,9 @@ use crate::changes::LeafRun;
 use crate::class::Class;
 use crate::page_after::{WayBack, replace};
 use delta_chain::{Chain, EntryBounds, LazyChain};
+use index_page::PageInMemory;
 use keys::{Settings, Value};
-use std::alloc::Global;
+use std::alloc::{AllocError, Global};
 
 // A leaf with at most this many runs over its base in memory may count them all as merged instead of being rebuilt.
 const PENDING_RUNS: usize = 16;
@@ -28,7 +32,7 @@ pub(crate) type LazyValues = LazyChain<Value<Global>, Global>;
 #[derive(Drop)]
 pub(crate) enum LeafWayBack {
     /// The run has no change, and the leaf is unchanged.
-    Same(LeafRun),
+    Same,
     /// The run was prepended to the leaf.
     InFront,
     /// All runs, including the new one, now count as merged. Before, the oldest `merged_runs` of them did.
@@ -36,17 +40,93 @@ pub(crate) enum LeafWayBack {
         class: Class,
         merged_runs: usize,
     },
-    /// The leaf was rebuilt. Before, `merged_runs` runs counted as merged.
+    /// The leaf was rebuilt. Before, `merged_runs` runs counted as merged. What undoes it is boxed, because it is
+    /// large, and few leaves are rebuilt.
     Replaced {
-        way_back: WayBack<Value<Global>>,
+        way_back: Box<WayBack<Value<Global>>, Global>,
         merged_runs: usize,
     },
 }
 
-/// Returns the leaf after the run and what undoes it; or, if allocation fails, the unchanged leaf. If the run is longer
-/// than `fan`, or would be the leaf's run number `chain + 1`, the leaf is replaced by a base of its entries. `bounds`
-/// bounds their number.
+/// Applies the run to the leaf, and returns what undoes it; if allocation fails, the leaf is unchanged. If the run is
+/// longer than `fan`, or would be the leaf's run number `chain + 1`, the leaf is replaced by a base of its entries.
+/// Otherwise, the run is prepended in place. `bounds` bounds the number of entries afterwards.
 pub(crate) fn put_leaf_run(
+    alloc: Global,
+    settings: &Settings,
+    page: &mut PageInMemory<Global>,
+    run: LeafRun,
+    bounds: EntryBounds,
+) -> Result<LeafWayBack, AllocError>
+    requires leaf { IsLeaf (page_shown page.old) }
+    requires fewest { bounds.fewest ≤ length (with_run (entries_of (lazy_of page.old).chain) run) }
+    requires most { min (length (with_run (entries_of (lazy_of page.old).chain) run)) usize.MAX
+        ≤ bounds.most }
+    ensures low { OnOk result (page.new ≡ LeafInMemory (low_of (page_shown page.old)) (lazy_of page.new)) }
+    ensures page { OnOk result
+        (seen (lazy_of page.new) ≡ after_run settings.now (seen (lazy_of page.old)) run) }
+    ensures class { IfOk result
+        (λ way_back. leaf_class_now way_back ≡ class_after settings.now (seen (lazy_of page.old)) run) }
+    ensures replaced { IfOk result (λ way_back.
+        is_leaf_replaced_now way_back ≡ is_replaced settings.now (seen (lazy_of page.old)) run) }
+    ensures can_undo { IfOk result (λ way_back. CanUndoLeaf (lazy_of page.new) way_back) }
+    ensures before { IfOk result
+        (λ way_back. leaf_before (lazy_of page.new) way_back ≡ lazy_of page.old) }
+    ensures back { OnErr result (page.new ≡ page.old) }
+{
+    let Some(leaf) = page.as_leaf() else {
+        unreachable!()
+    };
+    if run.len() == 0 {
+        return Ok(LeafWayBack::Same);
+    }
+    // Only for the proof: no more runs count as merged than there are.
+    let _merged_runs = leaf.merged_runs();
+    if must_replace_leaf(settings, leaf, &run) {
+        return replace_page(alloc, settings, page, run, bounds);
+    }
+    page.prepend(run, bounds)?;
+    Ok(LeafWayBack::InFront)
+}
+
+// Applies a run to a leaf that it replaces.
+fn replace_page(
+    alloc: Global,
+    settings: &Settings,
+    page: &mut PageInMemory<Global>,
+    run: LeafRun,
+    bounds: EntryBounds,
+) -> Result<LeafWayBack, AllocError>
+    requires leaf { IsLeaf (page_shown page.old) }
+    requires fewest { bounds.fewest ≤ length (with_run (entries_of (lazy_of page.old).chain) run) }
+    requires most { min (length (with_run (entries_of (lazy_of page.old).chain) run)) usize.MAX
+        ≤ bounds.most }
+    ensures low { OnOk result (page.new ≡ LeafInMemory (low_of (page_shown page.old)) (lazy_of page.new)) }
+    ensures page { OnOk result (seen (lazy_of page.new)
+        ≡ record { runs = []; base = with_run (entries_of (lazy_of page.old).chain) run }) }
+    ensures class { IfOk result (λ way_back. leaf_class_now way_back ≡ class_of_size settings.now
+        (length (with_run (entries_of (lazy_of page.old).chain) run))) }
+    ensures replaced { IfOk result (λ way_back. is_leaf_replaced_now way_back ≡ true) }
+    ensures can_undo { IfOk result (λ way_back. CanUndoLeaf (lazy_of page.new) way_back) }
+    ensures before { IfOk result
+        (λ way_back. leaf_before (lazy_of page.new) way_back ≡ lazy_of page.old) }
+    ensures back { OnErr result (page.new ≡ page.old) }
+{
+    let chain = page.take_leaf(alloc);
+    match replaced_by(alloc, settings, chain, run, bounds) {
+        Ok((chain, way_back)) => {
+            page.put_leaf(chain);
+            Ok(way_back)
+        }
+        Err(chain) => {
+            page.put_leaf(chain);
+            Err(AllocError)
+        }
+    }
+}
+
+// Prepends a run to a leaf that it replaces, and replaces the leaf.
+fn replaced_by(
     alloc: Global,
     settings: &Settings,
     page: LazyValues,
@@ -55,26 +135,24 @@ pub(crate) fn put_leaf_run(
 ) -> Result<(LazyValues, LeafWayBack), LazyValues>
     requires fewest { bounds.fewest ≤ length (with_run (entries_of page.chain) run) }
     requires most { min (length (with_run (entries_of page.chain) run)) usize.MAX ≤ bounds.most }
-    ensures page { IfOk result (λ after. seen after.0 ≡ after_run settings.now (seen page) run) }
-    ensures class { IfOk result
-        (λ after. leaf_class_now after.1 ≡ class_after settings.now (seen page) run) }
-    ensures replaced { IfOk result
-        (λ after. is_leaf_replaced_now after.1 ≡ is_replaced settings.now (seen page) run) }
+    ensures page { IfOk result (λ after.
+        seen after.0 ≡ record { runs = []; base = with_run (entries_of page.chain) run }) }
+    ensures class { IfOk result (λ after. leaf_class_now after.1
+        ≡ class_of_size settings.now (length (with_run (entries_of page.chain) run))) }
+    ensures replaced { IfOk result (λ after. is_leaf_replaced_now after.1 ≡ true) }
     ensures can_undo { IfOk result (λ after. CanUndoLeaf after.0 after.1) }
     ensures before { IfOk result (λ after. leaf_before after.0 after.1 ≡ page) }
     ensures back { IfErr result (λ again. again ≡ page) }
 {
-    if run.len() == 0 {
-        return Ok((page, LeafWayBack::Same(run)));
-    }
-    let must_replace = must_replace_leaf(settings, &page, &run);
     // Only for the proof: no more runs count as merged than there are.
     let _merged_runs = page.merged_runs();
     let mut page = page;
     match page.prepend(run) {
         Err((_refused, _run)) => Err(page),
-        Ok(()) if must_replace => replace_leaf(alloc, settings, page, bounds),
-        Ok(()) => Ok((page, LeafWayBack::InFront)),
+        Ok(()) => {
+            page.bound(bounds);
+            replace_leaf(alloc, settings, page, bounds)
+        }
     }
 }
 
@@ -172,13 +250,19 @@ fn merge(
 {
     let merged_runs = page.merged_runs();
     match replace(alloc, settings, page.into_chain()) {
-        Ok((chain, way_back)) => Ok((
-            LazyChain::of(chain),
-            LeafWayBack::Replaced {
-                way_back,
-                merged_runs,
-            },
-        )),
+        Ok((chain, way_back)) => match Box::new(alloc, way_back) {
+            Ok(way_back) => Ok((
+                LazyChain::of(chain),
+                LeafWayBack::Replaced {
+                    way_back,
+                    merged_runs,
+                },
+            )),
+            Err(refused) => {
+                let (chain, _run) = refused.value.undo(alloc, chain);
+                Err(late(chain, merged_runs))
+            }
+        },
         Err((chain, _run)) => Err(late(chain, merged_runs)),
     }
 }
@@ -211,7 +295,7 @@ impl LeafWayBack {
         ensures { result ≡ leaf_before page self }
     {
         match self {
-            LeafWayBack::Same(_run) => page,
+            LeafWayBack::Same => page,
             LeafWayBack::InFront => {
                 let merged_runs = page.merged_runs();
                 taken_off(page, merged_runs)
@@ -224,7 +308,7 @@ impl LeafWayBack {
                 way_back,
                 merged_runs,
             } => {
-                let (chain, _run) = way_back.undo(alloc, page.into_chain());
+                let (chain, _run) = Box::into_inner(way_back).undo(alloc, page.into_chain());
                 late(chain, merged_runs)
             }
         }
@@ -234,7 +318,7 @@ impl LeafWayBack {
         ensures { result ≡ leaf_class_now self.now }
     {
         match self {
-            LeafWayBack::Same(_) => Class::Same,
+            LeafWayBack::Same => Class::Same,
             LeafWayBack::InFront => Class::Changed,
             LeafWayBack::AllMerged { class, .. } => *class,
             LeafWayBack::Replaced { way_back, .. } => way_back.class(),
@@ -246,7 +330,7 @@ impl LeafWayBack {
         ensures { result ≡ is_leaf_replaced_now self.now }
     {
         match self {
-            LeafWayBack::Same(_) => false,
+            LeafWayBack::Same => false,
             LeafWayBack::InFront => false,
             LeafWayBack::AllMerged { .. } => true,
             LeafWayBack::Replaced { way_back, .. } => way_back.is_replaced(),

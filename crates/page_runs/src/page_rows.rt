@@ -34,7 +34,7 @@ pub(crate) fn rows_of(
     ensures { IfOk result
         (λ list. list ≡ rows low.now end.now limit (map_by_now page.now changes.now)) }
 {
-    let mut named = NamedKeys::new(alloc, page, changes, low);
+    let mut named = NamedKeys::new(page, changes, low);
     rows_left(alloc, &mut named, end, limit)
 }
 
@@ -76,7 +76,7 @@ pub(crate) fn keys_within(
     ensures { IfOk result (λ keys. keys.items
         ≡ keys_of (in_range low.now end.now (map_by_now page.now changes.now))) }
 {
-    let mut named = NamedKeys::new(alloc, page, changes, low);
+    let mut named = NamedKeys::new(page, changes, low);
     keys_left(alloc, &mut named, end)
 }
 
@@ -141,14 +141,14 @@ impl<'a> Model for NamedKeys<'a> {
 
 impl<'a> NamedKeys<'a> {
     // The keys at or above `low`.
-    fn new(alloc: Global, page: &'a LeafChain, changes: &'a Changes, low: &'a Key<Global>) -> Self
+    fn new(page: &'a LeafChain, changes: &'a Changes, low: &'a Key<Global>) -> Self
         requires { IsInOrder page.now }
         ensures named { result ≡ named_by_either (from low.now (entries_of page.now))
             (in_range low.now None changes.now) }
         ensures rising { IsRising result }
         ensures changes_rise { IsRising changes.now }
     {
-        let mut pairs = LeafPairs::new(alloc, page, low.as_bytes());
+        let mut pairs = LeafPairs::new(page, low.as_bytes());
         let mut changes = changes.from_key(low);
         let pair = pairs.next();
         let change = changes.next();

@@ -115,49 +115,47 @@ impl Work for TermWork {
     ghost made = { λ w h. index_made w.settings h };
 
     fn work(&self, job: TermJob) -> Turn<TermJob, TermDone> {
-        let TermJob { page, pid, terms } = job;
-        let (low, chain, list_before) = page.into_index();
+        let TermJob {
+            mut page,
+            pid,
+            terms,
+        } = job;
+        let (chain, list_before) = page.take_index(self.alloc);
         let (chain, way_back) = match put_run(self.alloc, &self.settings, chain, terms) {
             Ok(after) => after,
             Err((chain, terms)) => {
-                return Turn::Back(TermJob {
-                    page: Page::index(low, chain, list_before),
-                    pid,
-                    terms,
-                });
+                page.put_index(chain, list_before);
+                return Turn::Back(TermJob { page, pid, terms });
             }
         };
         match ChildList::of(self.alloc, &chain) {
-            Ok(list) => Turn::Done(TermDone {
-                page: Page::index(low, chain, list),
-                way_back,
-                list_before,
-                pid,
-            }),
+            Ok(list) => {
+                page.put_index(chain, list);
+                Turn::Done(TermDone {
+                    page,
+                    way_back,
+                    list_before,
+                    pid,
+                })
+            }
             Err(_refused) => {
                 let (chain, terms) = way_back.undo(self.alloc, chain);
-                Turn::Back(TermJob {
-                    page: Page::index(low, chain, list_before),
-                    pid,
-                    terms,
-                })
+                page.put_index(chain, list_before);
+                Turn::Back(TermJob { page, pid, terms })
             }
         }
     }
 
     fn undo(&self, done: TermDone) -> TermJob {
         let TermDone {
-            page,
+            mut page,
             way_back,
             list_before,
             pid,
         } = done;
-        let (low, chain, _list_now) = page.into_index();
+        let (chain, _list_now) = page.take_index(self.alloc);
         let (chain, terms) = way_back.undo(self.alloc, chain);
-        TermJob {
-            page: Page::index(low, chain, list_before),
-            pid,
-            terms,
-        }
+        page.put_index(chain, list_before);
+        TermJob { page, pid, terms }
     }
 }

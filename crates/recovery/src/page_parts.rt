@@ -81,10 +81,10 @@ impl PageParts {
         ensures { IfOk result (λ page. page ≡ page_of_parts self) }
     {
         match self {
-            PageParts::Leaf(low, chain) => Ok(Page::leaf(low, chain)),
+            PageParts::Leaf(low, chain) => Page::leaf(alloc, low, chain),
             PageParts::Index(low, chain) => {
                 let list = ChildList::of(alloc, &chain)?;
-                Ok(Page::index(low, chain, list))
+                Page::index(alloc, low, chain, list)
             }
         }
     }

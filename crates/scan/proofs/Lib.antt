@@ -17,7 +17,6 @@ mod PrefixLemmas
 mod RangeLemmas
 mod RangeSteps
 mod RowLemmas
-mod RunLists
 mod SearchLemmas
 mod TakenLemmas
 mod TreeBeyond

@@ -84,17 +84,7 @@ module _ {V : Type 0} where
       ∙ ap (λ (x : List (List ℕ × Option (Option V))). with_run (passing test (joined_changes runs)) x) (passing-asserted test run)
       ∙ ap (λ (x : List (List ℕ × Option V)). with_run x (asserted (passing test run))) (passing-joined_changes test runs a.1)
 
-  pub rising-passing : (test : List ℕ → Bool) (runs : List (List (List ℕ × Option V))) → AllByRecursion IsRising runs → AllByRecursion IsRising (map (passing test) runs)
-  rising-passing test [] a = tt
-  rising-passing test (run ∷ runs) a = (rising-filtered (λ e. test e.0) run a.0, rising-passing test runs a.1)
-
   -- ---- the lists of a page
-
-  pub rising-passing_all : (test : List ℕ → Bool) (p : Layers V) → IsInOrder p → AllByRecursion IsRising (map (passing test) p.runs)
-  rising-passing_all test p a = rising-passing test p.runs (each_rises p.runs p.base a).0
-
-  pub rising-base_of : (p : Layers V) → IsInOrder p → IsRising p.base
-  rising-base_of p a = (each_rises p.runs p.base a).1
 
   -- the entries of a page that pass, from the entries of its lists that pass
   pub passing-entries : (test : List ℕ → Bool) (p : Layers V) → IsInOrder p → with_run (passing test p.base) (joined_changes (map (passing test) p.runs)) ≡ passing test (entries_of p)

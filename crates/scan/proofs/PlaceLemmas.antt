@@ -1,5 +1,5 @@
 -- Lemmas on places in lists of rising keys, where an edge divides the list.
-use Rattle.std.specs.Prelude.{◌≡◌, ◌≤◌, ◌+◌, ◌-◌, ℕ, zero, suc, max, Bool, true, false, not, ◌||◌, cond, List, [], ◌∷◌, ◌++◌, length, take, drop, slice_get, Some, count_by}
+use Rattle.std.specs.Prelude.{◌≡◌, ◌<◌, ◌≤◌, ◌+◌, ◌-◌, ℕ, zero, suc, max, Bool, true, false, not, ◌||◌, cond, List, [], ◌∷◌, ◌++◌, length, take, drop, slice_get, Some, count_by}
 use Rattle.std.proofs.Common.{refl, sym, ap, ◌∙◌, subst, arith, add-one, Ordering, Less, Equal, Greater}
 use Rattle.std.specs.Ordering.{is_lt}
 use Rattle.std.specs.List.{AllByRecursion, filter}
@@ -95,6 +95,16 @@ module _ {V : Type 0} where
   value_there [] i k h = absurd (cc)
   value_there (e ∷ es) zero k h = (e.1, refl)
   value_there (e ∷ es) (suc i) k h = value_there es i k h
+
+  entry_there : (es : List (List ℕ × V)) (i : ℕ) → i < length es → (k : List ℕ) × (v : V) × (slice_get (keys_of es) i ≡ Some k) × (slice_get (values_of es) i ≡ Some v)
+  entry_there [] i l = absurd (omega arith)
+  entry_there (e ∷ es) zero l = (e.0, e.1, refl, refl)
+  entry_there (e ∷ es) (suc i) l = let m : i < length es = omega (arith, l) in entry_there es i m
+
+  -- there is a pair at the next place
+  pub next_there_is : (d : Direction) (es : List (List ℕ × V)) (at here later : ℕ) → IsNextPlace d at (length es) here later → (k : List ℕ) × (v : V) × (slice_get (keys_of es) here ≡ Some k) × (slice_get (values_of es) here ≡ Some v)
+  next_there_is Up es at here later p = let l : here < length es = omega (arith, p.0, p.1) in entry_there es here l
+  next_there_is Down es at here later p = let l : here < length es = omega (arith, p.0) in entry_there es here l
 
   -- the same if only the key is known
   pub at_next_key : (d : Direction) (es : List (List ℕ × V)) (at here later : ℕ) (k : List ℕ) → IsNextPlace d at (length es) here later → slice_get (keys_of es) here ≡ Some k → (v : V) × IsNext d (left_at d at es) (k, v) (left_at d later es)

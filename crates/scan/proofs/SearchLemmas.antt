@@ -1,5 +1,5 @@
 -- Lemmas on an iteration over a leaf that searches for each next key, in either direction.
-use Rattle.std.specs.Prelude.{◌≡◌, ℕ, Bool, true, false, not, cond, ◌&&◌, List, [], ◌∷◌, ◌++◌, map, Option, Some, None, MatchOption}
+use Rattle.std.specs.Prelude.{◌≡◌, ℕ, Bool, true, false, not, cond, ◌&&◌, List, [], ◌∷◌, ◌++◌, length, map, slice_get, Option, Some, None, MatchOption, count_by}
 use Rattle.std.proofs.Common.{refl, sym, ap, ◌∙◌, subst, Less}
 use Rattle.std.specs.Ordering.{is_lt}
 use Rattle.std.specs.List.{AllByRecursion, filter}
@@ -15,18 +15,17 @@ use Rattle.delta_chain.specs.Layers.{Layers, with_run, entries_of, IsInOrder}
 use Rattle.delta_chain.specs.Merging.{joined_changes}
 use Rattle.delta_chain.proofs.LayerLemmas.{rising-entries_of}
 use Rattle.page_search.specs.Floor.{floor}
-use Rattle.scan.specs.Direction.{precedes, IsNext, in_turn, until}
+use Rattle.scan.specs.Direction.{precedes, IsNext, in_turn, until, left_at, BeginsWith, IsNonePlace, IsNextPlace}
 use Rattle.scan.specs.Edge.{is_beyond, beyond}
-use Rattle.scan.specs.RunPlace.{BeginsWith}
 use Rattle.scan.specs.Search.{left_with, NamesNone, AreNamedFrom, IsPassed}
 use Rattle.scan.specs.RankCounter.{PassesLower}
 use Rattle.scan.specs.declared.direction.Direction.{Direction}
-use Rattle.scan.specs.declared.direction.Direction.TheVariants.{Up, Down}
+use Rattle.scan.specs.declared.direction.Direction.TheVariants.{Down}
 use Rattle.scan.proofs.DirectionLemmas.{first_there, in_turn_next, same_place, none_until_earlier, none_until_not_after}
 use Rattle.scan.proofs.LastLemmas.{each, before, none_passes, passes_none, passes_alike, none_before}
 use Rattle.scan.proofs.LeafLemmas.{itself}
-use Rattle.scan.proofs.MergeLemmas.{nothing_said, all_empty}
 use Rattle.scan.proofs.PassingLemmas.{passing, passing-entries}
+use Rattle.scan.proofs.PlaceLemmas.{begins_at_edge, at_end, at_next_key}
 use Rattle.scan.proofs.RangeLemmas.{both_pass, near_by, next_holds, passing_pass}
 
 module _ (d : Direction) (test : List ℕ → Bool) where
@@ -46,12 +45,18 @@ module _ (d : Direction) (test : List ℕ → Bool) where
 module _ {V : Type 0} where
   -- ---- the keys of a leaf's lists
 
+  -- runs without a change that passes have no merged change that passes
+  none_joined : (test : List ℕ → Bool) (runs : List (List (List ℕ × Option V))) → AllByRecursion (λ run. passing test run ≡ []) runs → joined_changes (map (passing test) runs) ≡ []
+  none_joined test [] a = refl
+  none_joined test (run ∷ runs) a =
+      ap (λ (x : List (List ℕ × Option V)). joined_changes (x ∷ map (passing test) runs)) a.0 ∙ none_joined test runs a.1
+
   -- if no list has a pair that passes, the leaf has none
   none_of_lists : (test : List ℕ → Bool) (p : Layers V) → IsInOrder p → AllByRecursion (λ run. passing test run ≡ []) p.runs → passing test p.base ≡ [] → passing test (entries_of p) ≡ []
   none_of_lists test p a r b =
       sym (passing-entries test p a)
       ∙ ap (λ (x : List (List ℕ × V)). with_run x (joined_changes (map (passing test) p.runs))) b
-      ∙ ap (λ (x : List (List ℕ × Option V)). with_run [] x) (nothing_said Up (map (passing test) p.runs) (all_empty Up (passing test) p.runs r))
+      ∙ ap (λ (x : List (List ℕ × Option V)). with_run [] x) (none_joined test p.runs r)
 
   module _ (d : Direction) (test : List ℕ → Bool) where
     pub nothing_named : (p : Layers V) → IsInOrder p → NamesNone d test p → beyond d test (entries_of p) ≡ []
@@ -117,6 +122,16 @@ module _ {V : Type 0} where
   nearest_down k p o a f = ap (λ (x : Option (List ℕ × V)). left_with Down x (entries_of p)) f ∙ upto-floor k (entries_of p) (rising-entries_of p a)
 
 -- ---- the next key of the lists
+
+-- by the place of the edge in a list
+module _ {X : Type 0} (d : Direction) (test : List ℕ → Bool) (lower : PassesLower test) (es : List (List ℕ × X)) (r : IsRising es) (at : ℕ) (a : at ≡ count_by test (keys_of es)) where
+  pub none_beyond : IsNonePlace d at (length es) → beyond d test es ≡ []
+  none_beyond n = sym (begins_at_edge test lower d es at r a) ∙ at_end d es at n
+
+  pub first_beyond : (here later : ℕ) (k : List ℕ) → IsNextPlace d at (length es) here later → slice_get (keys_of es) here ≡ Some k → (v : X) × BeginsWith d (k, v) (beyond d test es)
+  first_beyond here later k p h =
+      let n = at_next_key d es at here later k p h in
+      (n.0, record { rest = left_at d later es; parts = subst (λ (x : List (List ℕ × X)). IsNext d x (k, n.0) (left_at d later es)) (begins_at_edge test lower d es at r a) n.1 })
 
 abbrev Run : Type 0 → Type 0
 Run V = List (List ℕ × Option V)

@@ -44,6 +44,7 @@ abbrev pub IsNextPlace : Direction → ℕ → ℕ → ℕ → ℕ → Type 0
 IsNextPlace Up at len here later = (at < len) × (here ≡ at) × (later ≡ at + 1)
 IsNextPlace Down at len here later = (here + 1 ≡ min at len) × (later ≡ here)
 
--- the first pair of an iteration over the list has this key
-abbrev pub BeginsAt : {V : Type 0} → Direction → Bytes → Pairs V → Type 0
-BeginsAt {V} d k es = (v : V) × (rest : Pairs V) × IsNext d es (k, v) rest
+-- this is the first pair of an iteration over the list
+pub record BeginsWith {V : Type 0} (d : Direction) (e : Bytes × V) (es : Pairs V) : Type 0 where
+  pub rest : Pairs V
+  pub parts : IsNext d es e rest

@@ -10,7 +10,6 @@ pub mod Prefix
 pub mod Range
 pub mod RankCounter
 pub mod Rows
-pub mod RunPlace
 pub mod Search
 pub mod Walk
 pub mod Ways

@@ -5,9 +5,8 @@ ghost use Rattle.scan.specs.Direction.{IsNext};
 ghost use Rattle.scan.specs.Edge.{is_under};
 ghost use Rattle.scan.specs.Path.{child_place, children_beyond};
 
-use crate::direction::{Direction, Towards};
+use crate::direction::{Direction, Towards, next_place};
 use crate::edge::{Edge, count_under};
-use crate::run_place::next_place;
 use delta_chain::Base;
 use keys::Pid;
 use std::alloc::Global;

@@ -1,5 +1,6 @@
 //! The two directions of an iteration over keys.
-ghost use Rattle.std.specs.Prelude.{◌≡◌};
+ghost use Rattle.std.specs.Prelude.{◌≡◌, MatchOption};
+ghost use Rattle.scan.specs.Direction.{IsNonePlace, IsNextPlace};
 
 /// The direction of an iteration: to greater keys, or to smaller ones.
 #[derive(Clone, Copy)]
@@ -46,5 +47,20 @@ impl Towards for Downward {
     #[inline]
     fn direction() -> Direction {
         Direction::Down
+    }
+}
+
+// The place of the next item of a list with `len` items, and the place after it, for an iteration that is at `at`.
+#[inline]
+pub(crate) fn next_place(direction: Direction, at: usize, len: usize) -> Option<(usize, usize)>
+    ensures { MatchOption result (IsNonePlace direction at len)
+        (λ next. IsNextPlace direction at len next.0 next.1) }
+{
+    match direction {
+        Direction::Up => { if at < len { Some((at, at + 1)) } else { None } }
+        Direction::Down => {
+            let before = at.min(len).checked_sub(1)?;
+            Some((before, before))
+        }
     }
 }

@@ -5,7 +5,6 @@ ghost use Rattle.scan.specs.Direction.{IsNext};
 ghost use Rattle.scan.specs.Edge.{beyond, IsOutermost, is_under};
 ghost use Rattle.scan.specs.Ways.{pairs_of_way};
 
-use crate::base_pairs::BasePairs;
 use crate::direction::{Direction, Towards};
 use crate::edge::Edge;
 use crate::merge::{Merge, next_pair};
@@ -22,11 +21,10 @@ pub(crate) struct LeafWalk<'a, W: Towards> {
     way: Way<'a, W>,
 }
 
-// A leaf without runs is iterated along its base, and one with at most 16 runs is merged. With more runs, for which a
-// merge has no slots, each next key is searched for.
+// The base is merged with the list of the newest changes. In a leaf without such a list, which only a forged disk has,
+// each next key is searched for.
 #[derive(Drop)]
 enum Way<'a, W: Towards> {
-    Plain(BasePairs<'a, W>),
     Merging(Merge<'a, W>),
     Searching(Search<'a, W>),
 }
@@ -52,40 +50,28 @@ pub(crate) fn outermost(direction: Direction) -> Edge<'static>
 }
 
 impl<'a, W: Towards> LeafWalk<'a, W> {
-    pub(crate) fn new(
-        alloc: Global,
-        chain: &'a Chain<Value<Global>, Global>,
-        edge: &Edge<'_>,
-    ) -> Self
+    pub(crate) fn new(chain: &'a Chain<Value<Global>, Global>, edge: &Edge<'_>) -> Self
         ensures { result ≡ beyond W.direction (is_under edge.now) (entries_of chain.now) }
     {
-        if chain.depth() == 0 {
-            LeafWalk {
-                way: Way::Plain(BasePairs::new(chain.base(), edge)),
-            }
-        } else {
-            LeafWalk {
-                way: among_runs(alloc, chain, edge),
-            }
+        let _in_order = chain.depth();
+        match chain.newest_changes() {
+            Some(changes) => LeafWalk {
+                way: Way::Merging(Merge::new(chain.base(), changes, edge)),
+            },
+            None => LeafWalk {
+                way: Way::Searching(Search::new(chain, edge)),
+            },
         }
     }
 
-    // Starts again at the first or last pair of another leaf, after the previous leaf is exhausted. Reuses the
-    // iteration's state in place, because moving it is expensive, and skips a leaf that its bounds show to be empty.
-    pub(crate) fn restart(&mut self, alloc: Global, chain: &'a Chain<Value<Global>, Global>)
+    // Starts again at the first or last pair of another leaf, after the previous leaf is exhausted. Skips a leaf that
+    // its bounds show to be empty.
+    pub(crate) fn restart(&mut self, chain: &'a Chain<Value<Global>, Global>)
         requires { self.old ≡ [] }
         ensures { self.new ≡ entries_of chain.now }
     {
-        let entries = chain.bounds();
-        if entries.most == 0 {
-            return;
-        }
-        let depth = chain.depth();
-        let edge = outermost(W::direction());
-        match &mut self.way {
-            Way::Plain(pairs) if depth == 0 => *pairs = BasePairs::new(chain.base(), &edge),
-            Way::Merging(merge) if depth <= 16 => merge.restart(chain, &edge),
-            _ => *self = LeafWalk::new(alloc, chain, &edge),
+        if chain.bounds().most > 0 {
+            *self = LeafWalk::new(chain, &outermost(W::direction()));
         }
     }
 
@@ -94,25 +80,8 @@ impl<'a, W: Towards> LeafWalk<'a, W> {
             (λ p. IsNext W.direction self.old (p.0.now, p.1.now) self.new) }
     {
         match &mut self.way {
-            Way::Plain(pairs) => pairs.next(),
             Way::Merging(merge) => next_pair(merge),
             Way::Searching(search) => search.next(),
         }
-    }
-}
-
-// For a leaf with runs. The state of a merge is large, so this function is kept out of the path for a base alone.
-#[inline(never)]
-fn among_runs<'a, W: Towards>(
-    alloc: Global,
-    chain: &'a Chain<Value<Global>, Global>,
-    edge: &Edge<'_>,
-) -> Way<'a, W>
-    ensures { pairs_of_way result ≡ beyond W.direction (is_under edge.now) (entries_of chain.now) }
-{
-    if chain.depth() <= 16 {
-        Way::Merging(Merge::new(alloc, chain, edge))
-    } else {
-        Way::Searching(Search::new(chain, edge))
     }
 }

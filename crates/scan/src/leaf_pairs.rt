@@ -29,11 +29,11 @@ impl<'a> Model for LeafPairs<'a> {
 
 impl<'a> LeafPairs<'a> {
     /// Returns the leaf's pairs at or above `key`.
-    pub fn new(alloc: Global, chain: &'a Chain<Value<Global>, Global>, key: &[u8]) -> Self
+    pub fn new(chain: &'a Chain<Value<Global>, Global>, key: &[u8]) -> Self
         ensures { result ≡ from key.now (entries_of chain.now) }
     {
         LeafPairs {
-            walk: LeafWalk::new(alloc, chain, &Edge::Before(key)),
+            walk: LeafWalk::new(chain, &Edge::Before(key)),
         }
     }
 }

@@ -2,9 +2,7 @@
 //! to leaf and does not allocate. For a batch, the crate also computes keys at which its scans may end early.
 #![tactic(auto)]
 
-mod base_pairs;
 mod bounded;
-mod changes;
 mod children;
 mod direction;
 mod edge;
@@ -17,7 +15,6 @@ mod merge;
 mod point;
 mod range;
 mod rows;
-mod run_place;
 mod search;
 mod taken;
 mod tally;

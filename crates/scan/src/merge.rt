@@ -1,103 +1,81 @@
-//! Iterates over a leaf with few runs in either direction: merges the runs with the base.
-ghost use Rattle.std.specs.Prelude.{◌≡◌, ◌<◌, ◌≤◌, [], length, MatchOption};
+//! Iterates over a leaf in either direction: merges the changes of its runs with its base.
+ghost use Rattle.std.specs.Prelude.{◌≡◌, ◌<◌, [], length, slice_get, Some, MatchOption};
+ghost use Rattle.std.specs.Map.{keys_of};
 ghost use Rattle.std.specs.Option.{option_copied};
-ghost use Rattle.delta_chain.specs.Layers.{entries_of, depth_of};
+ghost use Rattle.keys.specs.Bytes.{Bytes};
+ghost use Rattle.delta_chain.specs.Layers.{with_run};
 ghost use Rattle.delta_chain.specs.Merging.{pair_if};
 ghost use Rattle.scan.specs.Direction.{IsNext, after, in_turn, left_at, until};
 ghost use Rattle.scan.specs.Edge.{beyond, is_under};
 ghost use Rattle.scan.specs.Merge.{merged, ArePairsNext, HasUntil};
 
-use crate::changes::{Runs, fill, next_change};
-use crate::direction::{Direction, Towards};
+use crate::direction::{Direction, Towards, next_place};
 use crate::edge::{Edge, count_under};
-use crate::run_place::{Change, next_place};
-use delta_chain::{Base, Chain};
+use delta_chain::{Base, ChangeList, KeyList};
 use keys::{KeyRef, Value};
-use smallvec::SmallVec;
 use std::alloc::Global;
 use std::cmp::Ordering;
-use std::marker::Model;
-use std::mem;
+use std::marker::{Model, PhantomData};
 
-/// A merge of a leaf's lists, with a place in the base and in each run: each key is compared once with the next change,
-/// and a run's key with those of the other runs. Contracts see it as the remaining changes and base pairs, in key order.
+/// A merge of a leaf's base with the changes of its runs, with a place in each. Contracts see it as the remaining
+/// changes and base pairs, in key order.
 #[derive(Drop)]
 pub(crate) struct Merge<'a, W: Towards> {
     base: &'a Base<Value<Global>, Global>,
-    // The place in the base.
     at: usize,
-    // The next of all changes, and the runs after it.
-    change: Option<Change<'a>>,
-    runs: Runs<'a, W>,
+    changes: ChangeList<'a, Value<Global>, Global>,
+    change_at: usize,
+    towards: PhantomData<W>,
 }
 
 impl<'a, W: Towards> Model for Merge<'a, W> {
-    ghost use Rattle.std.specs.Option.{option_copied, option_map};
-    ghost use Rattle.delta_chain.specs.Merging.{joined_changes};
     ghost use Rattle.scan.specs.Direction.{left_at};
-    ghost use Rattle.scan.specs.Merge.{Merged, changes_with, IsMerge};
+    ghost use Rattle.scan.specs.Merge.{Merged};
 
     ghost Value = { Merged };
 
     ghost view = { λ m. record {
-      changes = changes_with W.direction (option_map (λ c. (c.0, option_copied c.1)) m.change)
-          (joined_changes m.runs.items);
+      changes = left_at W.direction m.change_at m.changes;
       pairs = left_at W.direction m.at m.base.now;
     } };
-
-    ghost invariant = { λ m. IsMerge (changes_with W.direction
-        (option_map (λ c. (c.0, option_copied c.1)) m.change) (joined_changes m.runs.items))
-        m.runs.items m.base.now };
 }
 
 impl<'a, W: Towards> Merge<'a, W> {
+    // Takes one binary search in the base, and one in the changes.
     pub(crate) fn new(
-        alloc: Global,
-        chain: &'a Chain<Value<Global>, Global>,
+        base: &'a Base<Value<Global>, Global>,
+        changes: ChangeList<'a, Value<Global>, Global>,
         edge: &Edge<'_>,
     ) -> Self
-        requires { depth_of chain.now ≤ 16 }
-        ensures { merged result ≡ beyond W.direction (is_under edge.now) (entries_of chain.now) }
+        ensures { merged result
+            ≡ beyond W.direction (is_under edge.now) (with_run base.now changes.entry) }
     {
-        let _in_order = chain.depth();
-        let mut merge = Merge {
-            base: chain.base(),
-            at: 0,
-            change: None,
-            runs: SmallVec::new(alloc),
-        };
-        merge.restart(chain, edge);
-        merge
-    }
-
-    // Starts again with another leaf, at the edge. Takes one binary search in each list.
-    pub(crate) fn restart(&mut self, chain: &'a Chain<Value<Global>, Global>, edge: &Edge<'_>)
-        requires { depth_of chain.now ≤ 16 }
-        ensures { merged self.new ≡ beyond W.direction (is_under edge.now) (entries_of chain.now) }
-    {
-        let _in_order = chain.depth();
-        self.base = chain.base();
-        self.at = count_under(self.base, edge);
-        fill(&mut self.runs, chain, edge);
-        self.change = next_change(&mut self.runs);
+        Merge {
+            base,
+            at: count_under(base, edge),
+            change_at: count_under(&changes, edge),
+            changes,
+            towards: PhantomData,
+        }
     }
 
     // Removes and returns the next change, unless a pair of the base comes before it. Also skips the base pair with the
     // same key.
-    pub(crate) fn take_change(&mut self) -> Option<Change<'a>>
+    pub(crate) fn take_change(&mut self) -> Option<(&'a [u8], Option<&'a Value<Global>>)>
         ensures { MatchOption result
             ((self.new ≡ self.old)
             × ArePairsNext W.direction self.old.changes self.old.pairs)
             (λ c. (merged self.old
-            ≡ in_turn W.direction (pair_if c.0 (option_copied c.1)) (merged self.new))
+            ≡ in_turn W.direction (pair_if c.0.now (option_copied c.1)) (merged self.new))
             × (length self.new.changes < length self.old.changes)) }
     {
-        let at = match &self.change {
-            Some(change) => past(W::direction(), self.base, self.at, &change.0)?,
-            None => return None,
-        };
+        let (place, later) = next_place(W::direction(), self.change_at, self.changes.len())?;
+        // Only for the proof: the keys of the base rise.
+        let _rising = self.base.len();
+        let at = past(W::direction(), self.base, self.at, &self.changes, place)?;
         self.at = at;
-        mem::replace(&mut self.change, next_change(&mut self.runs))
+        self.change_at = later;
+        Some(self.changes.change(place))
     }
 
     // The base's next pair, before which there is no change.
@@ -106,6 +84,8 @@ impl<'a, W: Towards> Merge<'a, W> {
         ensures { MatchOption result ((merged self.old ≡ []) × (merged self.new ≡ []))
             (λ p. IsNext W.direction (merged self.old) (p.0.now, p.1.now) (merged self.new)) }
     {
+        // Only for the proof: the keys of the changes rise.
+        let _rising = self.changes.len();
         let base = self.base;
         let (place, at) = next_place(W::direction(), self.at, base.len())?;
         self.at = at;
@@ -125,37 +105,41 @@ pub(crate) fn next_pair<'a, W: Towards>(
             return merge.take_pair();
         };
         if let Some(value) = said {
-            return Some((key.as_bytes(), value));
+            return Some((key, value));
         }
     }
 }
 
-// The place after `key` in a base, for an iteration that is at `at`, or `None` if the next pair comes before `key`.
+// The place in a base after the key of the change at `change_place`, for an iteration that is at `at`, or `None` if the
+// base's next pair comes before that key.
 fn past(
     direction: Direction,
     base: &Base<Value<Global>, Global>,
     at: usize,
-    key: &KeyRef<'_>,
+    changes: &ChangeList<'_, Value<Global>, Global>,
+    change_place: usize,
 ) -> Option<usize>
-    ensures { MatchOption result (HasUntil direction key.now (left_at direction at base.now))
-        (λ later. (until direction key.now (left_at direction at base.now) ≡ [])
+    requires { change_place < length changes.now }
+    ensures { (k : Bytes) → slice_get (keys_of changes.now) change_place ≡ Some k →
+        MatchOption result (HasUntil direction k (left_at direction at base.now))
+        (λ later. (until direction k (left_at direction at base.now) ≡ [])
         × (left_at direction later base.now
-        ≡ after direction key.now (left_at direction at base.now))) }
+        ≡ after direction k (left_at direction at base.now))) }
 {
     let Some((place, later)) = next_place(direction, at, base.len()) else {
         return Some(at);
     };
-    let order = KeyRef::new(base.key(place)).compare(key);
+    let order = changes.compare_at(change_place, &base.key_ref(place));
     match direction {
         Direction::Up => match order {
-            Ordering::Less => None,
-            Ordering::Equal => Some(later),
-            Ordering::Greater => Some(at),
-        },
-        Direction::Down => match order {
             Ordering::Less => Some(at),
             Ordering::Equal => Some(later),
             Ordering::Greater => None,
+        },
+        Direction::Down => match order {
+            Ordering::Less => None,
+            Ordering::Equal => Some(later),
+            Ordering::Greater => Some(at),
         },
     }
 }

@@ -7,10 +7,8 @@ ghost use Rattle.scan.specs.Direction.{IsNext, precedes};
 ghost use Rattle.scan.specs.Edge.{beyond, is_under};
 ghost use Rattle.scan.specs.Search.{left_with, NamesNone, AreNamedFrom, IsPassed};
 
-use crate::changes::comes_before;
-use crate::direction::{Direction, Towards};
+use crate::direction::{Direction, Towards, next_place};
 use crate::edge::{Edge, count_under};
-use crate::run_place::{RunPlace, next_place};
 use delta_chain::{Chain, ChainRef};
 use keys::{KeyRef, Value};
 use page_search::{Probes, above, find, floor};
@@ -108,6 +106,17 @@ fn nearest<'a>(
     }
 }
 
+// Whether an iteration comes to `key` before `other`.
+#[inline]
+fn comes_before(direction: Direction, key: &KeyRef<'_>, other: &KeyRef<'_>) -> bool
+    ensures { result ≡ precedes direction key.now other.now }
+{
+    match direction {
+        Direction::Up => key.compare(other).is_lt(),
+        Direction::Down => other.compare(key).is_lt(),
+    }
+}
+
 // The next key beyond the edge that the runs or the base contain.
 fn next_named<'a, W: Towards>(
     lists: &ChainRef<'a, Value<Global>, Global>,
@@ -117,19 +126,23 @@ fn next_named<'a, W: Towards>(
     ensures { MatchOption result (NamesNone W.direction (is_under edge.now) lists.now)
         (λ key. AreNamedFrom W.direction key (is_under edge.now) lists.now) }
 {
+    let direction = W::direction();
     let Some((run, below)) = lists.newest() else {
         let base = lists.base();
-        let (place, _later) = next_place(W::direction(), count_under(base, edge), base.len())?;
-        return Some(KeyRef::new(base.key(place)));
+        let (place, _later) = next_place(direction, count_under(base, edge), base.len())?;
+        return Some(base.key_ref(place));
     };
     let under = next_named::<W>(&below, edge);
-    let own = RunPlace::<W>::new(run, edge);
-    let Some((key, _)) = own.next() else {
+    let Some((place, _later)) = next_place(direction, count_under(run, edge), run.len()) else {
         return under;
     };
-    let direction = W::direction();
-    match under {
-        Some(other) if comes_before(direction, &other, &key) => Some(other),
-        _ => Some(key),
+    let key = run.key_ref(place);
+    let Some(other) = under else {
+        return Some(key);
+    };
+    if comes_before(direction, &other, &key) {
+        Some(other)
+    } else {
+        Some(key)
     }
 }

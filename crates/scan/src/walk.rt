@@ -25,7 +25,6 @@ pub(crate) type Pair<'a> = (&'a [u8], &'a Value<Global>);
 /// order.
 #[derive(Drop)]
 pub(crate) struct Walk<'a, W: Towards> {
-    alloc: Global,
     leaf: LeafWalk<'a, W>,
     leaves: Leaves<'a, W>,
 }
@@ -50,8 +49,7 @@ impl<'a, W: Towards> Walk<'a, W> {
     {
         let (first, leaves) = Leaves::new(alloc, tree, edge);
         Walk {
-            alloc,
-            leaf: LeafWalk::new(alloc, first.1.whole(), edge),
+            leaf: LeafWalk::new(first.1.whole(), edge),
             leaves,
         }
     }
@@ -61,7 +59,7 @@ impl<'a, W: Towards> Walk<'a, W> {
         ensures { MatchOption result ((self.old ≡ []) × (self.new ≡ []))
             (λ p. IsNext W.direction self.old (p.0.now, p.1.now) self.new) }
     {
-        next_pair(self.alloc, &mut self.leaf, &mut self.leaves)
+        next_pair(&mut self.leaf, &mut self.leaves)
     }
 }
 
@@ -135,7 +133,6 @@ impl<'a, W: Towards> PeekableWalk<'a, W> {
 
 // The next pair of the leaf, or else of the leaves that come after it.
 fn next_pair<'a, W: Towards>(
-    alloc: Global,
     leaf: &mut LeafWalk<'a, W>,
     leaves: &mut Leaves<'a, W>,
 ) -> Option<Pair<'a>>
@@ -150,7 +147,7 @@ fn next_pair<'a, W: Towards>(
             return Some(pair);
         }
         match leaves.next() {
-            Some((_, chain)) => leaf.restart(alloc, chain.whole()),
+            Some((_, chain)) => leaf.restart(chain.whole()),
             None => return None,
         }
     }

@@ -98,6 +98,12 @@ module _ {V : Type 0} where
         let u : done ++ map made (pages_at low es p i (suc (p - suc i))) ≡ all = ap (λ (more : ℕ). done ++ map made (pages_at low es p i more)) (sym m) ∙ t in
         append_assoc done (made (bare k b) ∷ []) (map made (pages_at low es p (i + 1) (p - (i + 1)))) ∙ rw (j, h, n) u
 
+    -- all are made
+    pub cut_ends : (low : List ℕ) (es : List (List ℕ × V)) (p i : ℕ) (done all : List X) → p ≤ i → done ++ map made (pages_at low es p i (p - i)) ≡ all → done ≡ all
+    cut_ends low es p i done all l h =
+        let none : p - i ≡ 0 = omega arith in
+        sym (append-nil done) ∙ ap (λ (n : ℕ). done ++ map made (pages_at low es p i n)) (sym none) ∙ h
+
 -- ---- borrowed pages
 
 -- all of them are of a kind, and the one at a place too

@@ -5,11 +5,12 @@ ghost use Rattle.keys.specs.Order.{IsRising};
 ghost use Rattle.delta_chain.specs.Lent.{pairs_lent};
 ghost use Rattle.index_page.specs.Page.{bare, first_key};
 ghost use Rattle.split_plan.specs.Cut.{piece_count, cut};
+ghost use Rattle.split_plan.specs.Frames.{frame_in, frame_of};
 ghost use Rattle.split_plan.specs.Pieces.{pages_lent, joined_pages, low_at, pages_from};
 
 use crate::kind::Kind;
-use delta_chain::{Pairs, copied_base};
-use index_page::{Page, PageInMemory};
+use delta_chain::Pairs;
+use index_page::PageInMemory;
 use keys::Key;
 use std::alloc::{AllocError, Global};
 
@@ -44,23 +45,24 @@ fn push_pairs<'a, V>(
     Ok(())
 }
 
-/// Splits the entries into pages: the first one gets the low key `low`, each other one its own first key.
+/// Splits the entries into pages: the first one gets the low key `low`, each other one its own first key. The cells of
+/// leaves are blank.
 pub(crate) fn cut_pages<'a, V: Kind>(
     alloc: Global,
     fan: u32,
     low: &'a [u8],
     entries: &[(&'a [u8], &'a V)],
-) -> Result<Vec<Page<Global>>, AllocError>
+) -> Result<Vec<Box<PageInMemory<Global>>>, AllocError>
     requires fan { 0 < fan }
     requires rising { IsRising (pairs_lent entries.now) }
-    ensures { IfOk result (λ pages. pages.items
-        ≡ map V.made (pages_from low.now (cut fan (pairs_lent entries.now)))) }
+    ensures { IfOk result (λ pages. map (λ page. frame_in page.value) pages.items
+        ≡ map frame_of (map V.made (pages_from low.now (cut fan (pairs_lent entries.now))))) }
 {
     let count = piece_count(fan, entries.len());
     let mut pages = Vec::with_capacity(alloc, count)?;
     for at in 0..count {
         let piece = &entries[begin(at, entries.len(), count)..begin(at + 1, entries.len(), count)];
-        pages.push_reserved(bare_page(alloc, low_at(low, at, piece), piece)?);
+        pages.push_reserved(blank_page(alloc, low_at(low, at, piece), piece)?);
     }
     Ok(pages)
 }
@@ -100,16 +102,16 @@ pub(crate) fn first_key<'a, V>(entries: &[(&'a [u8], &'a V)]) -> &'a [u8]
     }
 }
 
-// A page with this low key and a base of copies of the entries.
-fn bare_page<V: Kind>(
+// A page with copies of this low key and of the entries. In a leaf, the cells are blank.
+fn blank_page<V: Kind>(
     alloc: Global,
     low: &[u8],
     entries: &[(&[u8], &V)],
-) -> Result<Page<Global>, AllocError>
+) -> Result<Box<PageInMemory<Global>>, AllocError>
     requires { IsRising (pairs_lent entries.now) }
-    ensures { IfOk result (λ page. page ≡ V.made (bare low.now (pairs_lent entries.now))) }
+    ensures { IfOk result (λ page.
+        frame_in page.value ≡ frame_of (V.made (bare low.now (pairs_lent entries.now)))) }
 {
     let low = Key::from_bytes(alloc, low)?;
-    let base = copied_base(alloc, entries)?;
-    Ok(V::page(low, base))
+    V::blank_page(alloc, low, entries)
 }

@@ -2,16 +2,19 @@
 ghost use Rattle.std.specs.Prelude.{◌≡◌, ◌<◌, map, IfOk};
 ghost use Rattle.std.specs.List.{AllByRecursion};
 ghost use Rattle.keys.specs.Order.{IsRising};
+ghost use Rattle.index_page.specs.InMemory.{page_shown};
 ghost use Rattle.index_page.specs.Page.{bare, first_key};
 ghost use Rattle.index_page.specs.Page.PageOfKind.{Index};
 ghost use Rattle.split_plan.specs.Cut.{cut};
+ghost use Rattle.split_plan.specs.Frames.{frame_in, frame_of};
 ghost use Rattle.split_plan.specs.Pieces.{pages_lent, CanJoin, group_made, joined_pages, pages_made};
 
 use crate::cutting::{cut_pages, first_key, joined};
 use crate::kind::Kind;
 use crate::name::Separator;
+use crate::new_pages::NewPages;
 use crew::{Turn, Work};
-use index_page::{Page, PageInMemory};
+use index_page::PageInMemory;
 use keys::{Pid, Settings, Value};
 use std::alloc::{AllocError, Global};
 use std::marker::{Model, PhantomData};
@@ -39,7 +42,7 @@ pub struct GroupJob<'a> {
 #[derive(Drop)]
 pub struct GroupDone<'a> {
     members: Vec<&'a PageInMemory<Global>>,
-    pieces: Vec<Page<Global>>,
+    pieces: NewPages,
 }
 
 impl<'a> GroupWork<'a> {
@@ -60,13 +63,13 @@ impl<'a> Model for GroupDone<'a> {
 
     ghost Value = { GroupRemade };
 
-    ghost view = { λ d. record { held = pages_lent d.members.items; made = d.pieces.items } };
+    ghost view = { λ d. record { held = pages_lent d.members.items; made = d.pieces } };
 }
 
 impl<'a> GroupDone<'a> {
     /// Returns the new pages. The work can no longer be undone.
-    pub fn into_pieces(self) -> Vec<Page<Global>>
-        ensures { result.items ≡ self.entry.made }
+    pub fn into_pieces(self) -> NewPages
+        ensures { result ≡ self.entry.made }
     {
         let GroupDone {
             members: _members,
@@ -121,32 +124,46 @@ fn remade<'a>(
     alloc: Global,
     settings: &Settings,
     members: &[&'a PageInMemory<Global>],
-) -> Result<Vec<Page<Global>>, AllocError>
+) -> Result<NewPages, AllocError>
     requires fan { 0 < settings.now.fan }
     requires members { CanJoin (pages_lent members.now) }
-    ensures { IfOk result
-        (λ pages. pages.items ≡ group_made settings.now (pages_lent members.now)) }
+    ensures { IfOk result (λ pages. pages ≡ group_made settings.now (pages_lent members.now)) }
+{
+    let blanks = blanks_of(alloc, settings, members)?;
+    NewPages::of(alloc, settings, members, blanks)
+}
+
+// The pages that replace the members. The cells of leaves are blank.
+fn blanks_of<'a>(
+    alloc: Global,
+    settings: &Settings,
+    members: &[&'a PageInMemory<Global>],
+) -> Result<Vec<Box<PageInMemory<Global>>>, AllocError>
+    requires fan { 0 < settings.now.fan }
+    requires members { CanJoin (pages_lent members.now) }
+    ensures { IfOk result (λ pages. map (λ page. frame_in page.value) pages.items
+        ≡ map frame_of (group_made settings.now (pages_lent members.now))) }
 {
     match members.first() {
-        Some(first) if first.as_leaf().is_some() => remade_as::<Value<Global>>(
+        Some(first) if first.as_leaf().is_some() => blanks_as::<Value<Global>>(
             alloc, settings, members,
         ),
-        Some(_) => remade_as::<Pid>(alloc, settings, members),
+        Some(_) => blanks_as::<Pid>(alloc, settings, members),
         None => unreachable!(),
     }
 }
 
-// `remade` of members of one kind.
-fn remade_as<'a, V: Kind + 'a>(
+// `blanks_of` members of one kind.
+fn blanks_as<'a, V: Kind + 'a>(
     alloc: Global,
     settings: &Settings,
     members: &[&'a PageInMemory<Global>],
-) -> Result<Vec<Page<Global>>, AllocError>
+) -> Result<Vec<Box<PageInMemory<Global>>>, AllocError>
     requires fan { 0 < settings.now.fan }
     requires kind { AllByRecursion V.is_of (pages_lent members.now) }
     requires rising { IsRising (joined_pages (map V.taken (pages_lent members.now))) }
-    ensures { IfOk result (λ pages. pages.items
-        ≡ map V.made (pages_made settings.now (map V.taken (pages_lent members.now)))) }
+    ensures { IfOk result (λ pages. map (λ page. frame_in page.value) pages.items ≡ map frame_of
+        (map V.made (pages_made settings.now (map V.taken (pages_lent members.now))))) }
 {
     let Some(first) = members.first() else {
         return Ok(Vec::new(alloc));
@@ -160,10 +177,10 @@ pub fn index_pages(
     alloc: Global,
     settings: &Settings,
     names: &[Separator],
-) -> Result<Vec<Page<Global>>, AllocError>
+) -> Result<Vec<Box<PageInMemory<Global>>>, AllocError>
     requires fan { 0 < settings.now.fan }
     requires rising { IsRising names.now }
-    ensures { IfOk result (λ pages. pages.items
+    ensures { IfOk result (λ pages. map (λ page. page_shown page.value) pages.items
         ≡ map (λ b. Index (bare (first_key b) b)) (cut settings.now.fan names.now)) }
 {
     let mut entries = Vec::with_capacity(alloc, names.len())?;

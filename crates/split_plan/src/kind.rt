@@ -1,13 +1,16 @@
 //! The two kinds of pages, distinguished by their cells.
-ghost use Rattle.std.specs.Prelude.{◌≡◌};
+ghost use Rattle.std.specs.Prelude.{◌≡◌, IfOk};
+ghost use Rattle.keys.specs.Order.{IsRising};
 ghost use Rattle.delta_chain.specs.Layers.{entries_of};
+ghost use Rattle.delta_chain.specs.Lent.{pairs_lent};
 ghost use Rattle.index_page.specs.InMemory.{page_shown};
 ghost use Rattle.index_page.specs.Page.{bare, entries};
+ghost use Rattle.split_plan.specs.Frames.{frame_in, frame_of};
 
-use delta_chain::{Base, Chain};
+use delta_chain::{Base, Chain, LazyChain, blank_base, copied_base};
 use index_page::{Page, PageInMemory};
 use keys::{Cell, Key, Pid, Value};
-use std::alloc::Global;
+use std::alloc::{AllocError, Global};
 
 /// A kind of page, by the cells of its pages: values for leaves, page ids for index pages.
 pub(crate) trait Kind: Cell<Global> + Drop {
@@ -27,9 +30,15 @@ pub(crate) trait Kind: Cell<Global> + Drop {
         requires { is_of (page_shown page.now) }
         ensures { entries_of result.now ≡ entries (taken (page_shown page.now)) };
 
-    /// The page with this low key and this base.
-    fn page(low: Key<Global>, base: Base<Self, Global>) -> Page<Global>
-        ensures { result ≡ made (bare low base) };
+    /// A page with this low key and these entries. In a leaf, the cells are blank.
+    fn blank_page(
+        alloc: Global,
+        low: Key<Global>,
+        entries: &[(&[u8], &Self)],
+    ) -> Result<Box<PageInMemory<Global>>, AllocError>
+        requires { IsRising (pairs_lent entries.now) }
+        ensures { IfOk result (λ page.
+            frame_in page.value ≡ frame_of (made (bare low (pairs_lent entries.now)))) };
 
     // Viewing a page as one of this kind retains its low key.
     ghost keeps_low: { (p : PageOfKind) → (taken p).low ≡ low_of p };
@@ -55,10 +64,16 @@ impl Kind for Value<Global> {
         }
     }
 
-    fn page(low: Key<Global>, base: Base<Self, Global>) -> Page<Global>
-        ensures { result ≡ Leaf (bare low base) }
-    {
-        Page::leaf(low, Chain::of_base(base))
+    fn blank_page(
+        alloc: Global,
+        low: Key<Global>,
+        entries: &[(&[u8], &Self)],
+    ) -> Result<Box<PageInMemory<Global>>, AllocError> {
+        let base = blank_base(alloc, entries)?;
+        // The contract of `put_leaf` says how the values are stored; the contract of `Page::leaf` does not.
+        let mut page = Page::leaf(alloc, low, Chain::of_base(Base::empty(alloc)))?.into_memory();
+        page.as_mut().put_leaf(LazyChain::of(Chain::of_base(base)));
+        Ok(page)
     }
 }
 
@@ -82,9 +97,12 @@ impl Kind for Pid {
         }
     }
 
-    fn page(low: Key<Global>, base: Base<Self, Global>) -> Page<Global>
-        ensures { result ≡ Index (bare low base) }
-    {
-        Page::bare_index(low, base)
+    fn blank_page(
+        alloc: Global,
+        low: Key<Global>,
+        entries: &[(&[u8], &Self)],
+    ) -> Result<Box<PageInMemory<Global>>, AllocError> {
+        let base = copied_base(alloc, entries)?;
+        Ok(Page::bare_index(alloc, low, base)?.into_memory())
     }
 }

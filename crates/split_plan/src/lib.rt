@@ -10,10 +10,13 @@ mod group_work;
 mod grouping;
 mod kind;
 pub mod laws;
+mod moving;
 mod name;
+mod new_pages;
 mod parent_run;
 
 pub use crate::group_work::{GroupDone, GroupJob, GroupWork, index_pages};
 pub use crate::grouping::groups;
 pub use crate::name::Separator;
+pub use crate::new_pages::NewPages;
 pub use crate::parent_run::terms;

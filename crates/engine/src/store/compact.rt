@@ -92,7 +92,7 @@ fn put_leaf(
 {
     table.room(pid)?;
     if table.is_away(pid) {
-        table.put(pid, empty_leaf(alloc));
+        table.put(pid, empty_leaf(alloc)?);
     }
     Ok(())
 }
@@ -158,7 +158,7 @@ fn first_tree_of(
 {
     let mut table = table;
     table.room(0)?;
-    table.put(0, empty_leaf(alloc));
+    table.put(0, empty_leaf(alloc)?);
     Ok(Tree::new(table, Pid(0), 1))
 }
 

@@ -44,9 +44,9 @@ fn in_use(settings: &Settings, log: LogEnds) -> u64
 }
 
 impl<D: Disk> Store<D> {
-    /// Returns whether a call of the disk has failed in a flush, an upgrade or a clean. Then every batch, flush,
-    /// upgrade and clean fails with `Fault::Failed`, and so does `pending_bytes`; reads still work, and `reopen`
-    /// returns the store of the last flush.
+    /// Returns whether a call of the disk has failed in a flush, an upgrade, a clean or the `reopen` of a handle. Then
+    /// every batch, flush, upgrade and clean fails with `Fault::Failed`, and so does `pending_bytes`; reads still work,
+    /// and `reopen` returns the store of the last flush that succeeded, or of the one that failed.
     pub fn has_failed(&self) -> bool
         ensures { result ≡ self.now.has_failed }
     {

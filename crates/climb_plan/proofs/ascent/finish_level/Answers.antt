@@ -15,7 +15,7 @@ install_all-requires g c =
     let w = c.requires.0 in
     let can = c.requires.1 in
     let up = climbed_by c.args.settings.now w c.args.tree.now c.args.climbed _ c.in-Ok.is can.ended in
-    installs_here can.updated up.climbs c.put_home.ensures
+    installs_here can.updated up.climbs c.put_home.ensures c.is_of_a_kind.ensures
 
 pub returns-in-Ok-clause-climbed : goal.returns-in-Ok-clause-climbed
 returns-in-Ok-clause-climbed g c = λ w can.

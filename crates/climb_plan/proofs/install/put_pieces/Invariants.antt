@@ -1,5 +1,6 @@
-use Rattle.std.proofs.Common.{◌≡◌, drop}
+use Rattle.std.proofs.Common.{◌≡◌, map, drop}
 use Rattle.std.specs.Vec.Iter.{into_iter_items}
+use Rattle.index_page.specs.InMemory.{page_shown}
 use Rattle.climb_plan.specs.Installing.{AreAway}
 use Rattle.climb_plan.proofs.Installing.{tree_under}
 use Rattle.climb_plan.proofs.install.put_pieces.Given as goal
@@ -8,5 +9,5 @@ use Rattle.climb_plan.proofs.install.put_pieces.Given as goal
 abbrev pub invariant-loop-pid : goal.invariant-loop-pid
 invariant-loop-pid l = record {
   away : AreAway l.tree.table (drop l.pid-index l.pids);
-  put : tree_under l.tree (drop l.pid-index l.pids) (into_iter_items l.rest) ≡ tree_under l.fn.tree l.fn.pids (into_iter_items l.fn.pages);
+  put : tree_under l.tree (drop l.pid-index l.pids) (map (λ page. page_shown page.value) (into_iter_items l.rest)) ≡ tree_under l.fn.tree l.fn.pids (map (λ page. page_shown page.value) (into_iter_items l.fn.pages));
 }

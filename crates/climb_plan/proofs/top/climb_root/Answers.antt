@@ -13,7 +13,7 @@ pub install_all-requires : goal.install_all-requires
 install_all-requires g c =
     let l = top_level g.D.UpdatedPage.of c.args.tree.now (map g.D.UpdatedPage.seen_page c.args.dones.items) 0 refl c.requires.level in
     let changed = changed_for c.args.settings.now g.D.UpdatedPage.of c.args.tree.now c.change_root.new.tree c.in-Ok.groups.items c.in-Ok.root c.in-Ok.height g.D.UpdatedPage.seen_page c.args.dones.items c.deref.result.now c.deref.ensures.value c.in-Ok.ensures.changed in
-    top_installs c.args.settings.now g.D.UpdatedPage.of c.args.tree.now c.change_root.new.tree (map g.D.UpdatedPage.seen_page c.args.dones.items) l.0.updated l.0.used l.0.from l.1 _ _ _ (changed l.0 l.1) c.put_home.new.tree c.put_home.ensures
+    top_installs c.args.settings.now g.D.UpdatedPage.of c.args.tree.now c.change_root.new.tree (map g.D.UpdatedPage.seen_page c.args.dones.items) l.0.updated l.0.used l.0.from l.1 _ _ _ (changed l.0 l.1) c.is_of_a_kind.ensures c.put_home.new.tree c.put_home.ensures
 
 pub returns-in-Ok-clause-climbed : goal.returns-in-Ok-clause-climbed
 returns-in-Ok-clause-climbed g c =

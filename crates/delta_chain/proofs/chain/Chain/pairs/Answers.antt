@@ -10,7 +10,7 @@ lent_changes-requires g c = rw c.deref-2.ensures.value (let newest = rw c.in-Som
 pub with_run-requires-clause-changes : goal.with_run-requires-clause-changes
 with_run-requires-clause-changes g c =
     let newest = rw c.in-Some.is at c.self.invariant.2 in
-    rw (c.in_ok-changes.ensures, c.deref.ensures.value, c.deref-2.ensures.value) (rising_changes c.self.inside.runs.items c.self.inside.base c.in-Some.locators.items newest c.self.invariant.0.rising)
+    rw (c.in_ok-changes.ensures, c.deref.ensures.value, c.deref-2.ensures.value) (rising_changes c.self.inside.runs.items c.in-Some.locators.items newest)
 
 pub returns-clause-entries : goal.returns-clause-entries
 returns-clause-entries g c =

@@ -3,8 +3,8 @@ use Rattle.mapping.specs.Table.{with_room}
 use Rattle.engine.proofs.OutdatedTables.{leaf_put, leaf_there}
 use Rattle.engine.proofs.store.compact.put_leaf.Goals as goal
 
-pub returns-then-is_away : goal.returns-then-is_away
-returns-then-is_away c = λ pids has.
+pub returns-in_ok-empty_leaf : goal.returns-in_ok-empty_leaf
+returns-in_ok-empty_leaf c = λ pids has.
     let room : c.room.new.self ≡ with_room c.args.table.now c.args.pid = search rules in
     leaf_put pids c.args.pid c.args.table.now c.room.new.self room has c.put.new.self (search rules)
 

@@ -1,34 +1,33 @@
-use Rattle.std.proofs.Common.{ℕ, List, Option, ap, refl}
-use Rattle.std.specs.Option.{option_copied, option_map}
-use Rattle.delta_chain.specs.Merging.{joined_changes}
-use Rattle.scan.specs.Merge.{changes_with}
-use Rattle.scan.proofs.DirectionLemmas.{in_turn_next}
-use Rattle.scan.proofs.MergeLemmas.{change_taken, pairs_are_next, said_with}
-use Rattle.scan.proofs.PlaceLemmas.{rising_left}
-use Rattle.scan.proofs.RunLists.{merge_again}
+use Rattle.std.proofs.Common.{refl}
+use Rattle.std.specs.Option.{option_copied}
+use Rattle.scan.proofs.MergeLemmas.{change_taken, no_change_next, pairs_are_next}
+use Rattle.scan.proofs.PlaceLemmas.{at_end, at_next_place, next_there_is, rising_left}
 use Rattle.scan.proofs.merge.Merge.take_change.Goals as goal
 
-pub invariant_of-self : goal.invariant_of-self
-invariant_of-self g c =
-    rw c.replace.ensures.after (merge_again c.self.inside.runs.items _ _ _ c.self.invariant.runs c.next_change.ensures.rising c.self.invariant.base
-    (said_with g.W.Towards.direction (λ c. (c.0, option_copied c.1)) c.next_change.result c.self.inside.runs.items c.next_change.new.runs.items c.next_change.ensures.changes))
+pub returns-in_err-place : goal.returns-in_err-place
+returns-in_err-place g c =
+    let d = g.W.Towards.direction in
+    rw (c.from_residual.ensures, ← c.self.view_is)
+    (refl, no_change_next d _ _ (at_end d c.self.inside.changes c.self.inside.change_at (rw (c.direction.ensures, c.len.ensures.count) at c.in_err-place.ensures)))
 
--- the change at hand comes first of all changes
-pub returns-in_err-at-in-Some : goal.returns-in_err-at-in-Some
-returns-in_err-at-in-Some g c =
-    let change : List ℕ × Option (List ℕ) = (c.in-Some.change.0, option_copied c.in-Some.change.1) in
-    rw (c.from_residual.ensures, ← c.self.view_is) (
+pub returns-in_err-at : goal.returns-in_err-at
+returns-in_err-at g c =
+    let d = g.W.Towards.direction in
+    let place = rw (c.direction.ensures, c.len.ensures.count) at c.in_ok-place.ensures in
+    let there = next_there_is d c.self.inside.changes c.self.inside.change_at c.in_ok-place.place c.in_ok-place.later place in
+    rw (c.from_residual-in_err-at.ensures, ← c.self.view_is) (
       refl,
-      pairs_are_next g.W.Towards.direction change.0 change.1 _ (joined_changes c.self.inside.runs.items) _ (rising_left g.W.Towards.direction c.self.inside.at c.self.inside.base.now c.self.invariant.base) c.self.invariant.changes
-          (in_turn_next g.W.Towards.direction change _ _ (ap (λ x. changes_with g.W.Towards.direction (option_map (λ c. (c.0, option_copied c.1)) x) (joined_changes c.self.inside.runs.items)) c.in-Some.is))
-          (rw c.direction.ensures at c.in_err-at-in-Some.ensures),
+      pairs_are_next d there.0 there.1 _ _ _ (rising_left d c.self.inside.at c.self.inside.base.now c.len-rising.ensures.rising) (rising_left d c.self.inside.change_at c.self.inside.changes c.len.ensures.rising)
+          (at_next_place d c.self.inside.changes c.self.inside.change_at c.in_ok-place.place c.in_ok-place.later there.0 there.1 place there.2 there.3)
+          (rw c.direction-2.ensures at (c.in_err-at.ensures there.0 there.2)),
     )
 
 pub returns : goal.returns
 returns g c =
-    let change : List ℕ × Option (List ℕ) = (c.in-Some.change.0, option_copied c.in-Some.change.1) in
-    let rest = said_with g.W.Towards.direction (λ c. (c.0, option_copied c.1)) c.next_change.result c.self.inside.runs.items c.next_change.new.runs.items c.next_change.ensures.changes in
-    rw (c.replace.ensures.value, c.in-Some.is, c.replace.ensures.after, ← c.self.view_is, ← rest)
-    (change_taken g.W.Towards.direction change.0 change.1 _ _ _ (joined_changes c.self.inside.runs.items) (rising_left g.W.Towards.direction c.self.inside.at c.self.inside.base.now c.self.invariant.base) c.self.invariant.changes
-    (in_turn_next g.W.Towards.direction change _ _ (ap (λ x. changes_with g.W.Towards.direction (option_map (λ c. (c.0, option_copied c.1)) x) (joined_changes c.self.inside.runs.items)) c.in-Some.is))
-    (rw c.direction.ensures at c.in_ok-at-in-Some.ensures.0) (rw c.direction.ensures at c.in_ok-at-in-Some.ensures.1))
+    let d = g.W.Towards.direction in
+    let place = rw (c.direction.ensures, c.len.ensures.count) at c.in_ok-place.ensures in
+    let past = rw c.direction-2.ensures at (c.in_ok-at.ensures c.change.result.0.now c.change.ensures.key) in
+    rw (← c.self.view_is)
+    (change_taken d c.change.result.0.now (option_copied c.change.result.1) _ _ _ _ (rising_left d c.self.inside.at c.self.inside.base.now c.len-rising.ensures.rising) (rising_left d c.self.inside.change_at c.self.inside.changes c.len.ensures.rising)
+    (at_next_place d c.self.inside.changes c.self.inside.change_at c.in_ok-place.place c.in_ok-place.later c.change.result.0.now (option_copied c.change.result.1) place c.change.ensures.key c.change.ensures.cell)
+    past.0 past.1)
