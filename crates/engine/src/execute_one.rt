@@ -67,7 +67,7 @@ pub(crate) fn execute_one(
     the_plan_of_a_proper_store_is_proper::<Global>();
     the_log_states_stay_true::<Global>();
     pairs_can_be_counted(&work.settings, tree, work.commands);
-    let page_run = PageRun::of_one(leaf_of(tree, command), 0);
+    let page_run = PageRun::of_one(work.alloc, leaf_of(tree, command), 0);
     gate.enter(0);
     if is_only_read(work.commands, &page_run) {
         let replies = read_leaf(work, tree, page_run)?;

@@ -11,8 +11,7 @@ use Rattle.std.proofs.lemmas.List.Elements.{All-from_recursion}
 use Rattle.std.proofs.lemmas.List.Sorted.{IsPermutation-refl, IsPermutation-sym, IsPermutation-cons, IsPermutation-trans, IsPermutation-middle}
 use Rattle.std.proofs.lemmas.Map.Keys.{IsDistinct-IsPermutation, sorted_from_strictly_increasing}
 use Rattle.routing.specs.Keyed.{Keyed, places_of}
-use Rattle.routing.specs.KeptPlaces.{inserted, places_kept, rising}
-use Rattle.routing.specs.declared.page_run.KeptPlaces.{KeptPlaces}
+use Rattle.routing.specs.Rising.{inserted, rising}
 use Rattle.routing.specs.Routes.{Route}
 use Rattle.routing.specs.Shares.{Share, Lent, all_of, share_of_lent, HasEachPlaceOnce, IsInBatchOrder}
 use Rattle.routing.proofs.BatchOrder.{same_parts}
@@ -131,12 +130,11 @@ own_places l ks rs ps e f none h =
 
 -- ---- the places of a run
 
-pub kept_same : (r : Route) (pid : ℕ) (k : KeptPlaces) (ps qs : List ℕ) → record { pid = pid; places = rising (places_kept k) } ≡ r → places_kept k ≡ ps → qs ≡ ps → IsPermutation r.places qs
-kept_same r pid k ps qs e f g =
-    let there : rising (places_kept k) ≡ r.places = ap (λ (x : Route). x.places) e in
-    let given : places_kept k ≡ qs = f ∙ sym g in
+pub kept_same : (r : Route) (pid : ℕ) (ps qs : List ℕ) → record { pid = pid; places = rising ps } ≡ r → qs ≡ ps → IsPermutation r.places qs
+kept_same r pid ps qs e f =
+    let there : rising ps ≡ r.places = ap (λ (x : Route). x.places) e in
     subst (λ (os : List ℕ). IsPermutation os qs) there
-    (subst (λ (os : List ℕ). IsPermutation (rising (places_kept k)) os) given (IsPermutation-sym (places_kept k) (rising (places_kept k)) (same-rising (places_kept k))))
+    (subst (λ (os : List ℕ). IsPermutation (rising ps) os) (sym f) (IsPermutation-sym ps (rising ps) (same-rising ps)))
 
-pub kept_rising : (r : Route) (pid : ℕ) (k : KeptPlaces) → record { pid = pid; places = rising (places_kept k) } ≡ r → IsDistinct nat_eq (places_kept k) → IsStrictlyIncreasing r.places
-kept_rising r pid k e d = subst (λ (os : List ℕ). IsStrictlyIncreasing os) (ap (λ (x : Route). x.places) e) (rising-distinct (places_kept k) d)
+pub kept_rising : (r : Route) (pid : ℕ) (ps : List ℕ) → record { pid = pid; places = rising ps } ≡ r → IsDistinct nat_eq ps → IsStrictlyIncreasing r.places
+kept_rising r pid ps e d = subst (λ (os : List ℕ). IsStrictlyIncreasing os) (ap (λ (x : Route). x.places) e) (rising-distinct ps d)

@@ -1,8 +1,8 @@
 pub mod BatchKeys
 pub mod Idle
-pub mod KeptPlaces
 pub mod Keyed
 pub mod Places
+pub mod Rising
 pub mod Routes
 pub mod Runs
 pub mod Shares

@@ -23,6 +23,7 @@ use crate::sort::{Keyed, count_below, in_batch_order, in_key_order, sharing, sor
 use index_page::Page;
 use keys::{Fault, Pid};
 use mapping::Tree;
+use smallvec::SmallVec;
 use std::alloc::{AllocError, Global};
 use std::thread::{Threads, join};
 
@@ -375,10 +376,11 @@ fn page_run_of(
     let keyed = share.keyed();
     let reaching = share.reaching();
     if keyed.len() == 1 && reaching.is_empty() {
-        return Ok(PageRun::of_one(pid, keyed[0].1));
+        return Ok(PageRun::of_one(alloc, pid, keyed[0].1));
     }
     if reaching.is_empty() && !(ranged && has_range_at(batch, keyed)) {
         return Ok(PageRun::new(pid, in_key_order(alloc, keyed)?));
     }
-    Ok(PageRun::new(pid, in_batch_order(alloc, keyed, reaching)?))
+    let places = in_batch_order(alloc, keyed, reaching)?;
+    Ok(PageRun::new(pid, SmallVec::from_vec(places)))
 }

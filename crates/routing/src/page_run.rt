@@ -2,25 +2,20 @@
 ghost use Rattle.std.specs.Prelude.{◌≡◌, ◌∷◌, [], nat_eq};
 ghost use Rattle.std.specs.List.{IsDistinct};
 ghost use Rattle.std.specs.List.Sorted.{IsPermutation, IsStrictlyIncreasing};
-ghost use Rattle.routing.specs.KeptPlaces.{rising};
+ghost use Rattle.routing.specs.Rising.{rising};
 
 use keys::Pid;
+use smallvec::SmallVec;
+use std::alloc::Global;
 use std::marker::Model;
-use std::slice;
 
 /// The commands of a batch that must be applied to one page: the page id, and the commands' places in the batch,
-/// counted from 0, in any order. Contracts see it as a `Route`, whose places rise. A single place is stored without a
-/// list, because in a batch of scattered keys most pages have one command.
+/// counted from 0, in any order. Contracts see it as a `Route`, whose places rise. Up to four places need no allocation,
+/// because in a batch of scattered keys most pages have few commands.
 #[derive(Drop)]
 pub struct PageRun {
     pid: Pid,
-    places: KeptPlaces,
-}
-
-#[derive(Drop)]
-enum KeptPlaces {
-    One(usize),
-    Many(Vec<usize>),
+    places: SmallVec<usize, 4>,
 }
 
 impl Model for PageRun {
@@ -30,33 +25,29 @@ impl Model for PageRun {
 
     ghost use Rattle.std.specs.Prelude.{nat_eq};
     ghost use Rattle.std.specs.List.{IsDistinct};
-    ghost use Rattle.routing.specs.KeptPlaces.{places_kept, rising};
+    ghost use Rattle.routing.specs.Rising.{rising};
 
-    ghost view = { λ r. record { pid = r.pid; places = rising (places_kept r.places) } };
+    ghost view = { λ r. record { pid = r.pid; places = rising r.places.items } };
 
-    ghost invariant = { λ r. IsDistinct nat_eq (places_kept r.places) };
+    ghost invariant = { λ r. IsDistinct nat_eq r.places.items };
 }
 
 impl PageRun {
     /// Makes the run of the page with this id and these places, of which no two may be equal.
-    pub fn new(pid: Pid, places: Vec<usize>) -> PageRun
+    pub fn new(pid: Pid, places: SmallVec<usize, 4>) -> PageRun
         requires { IsDistinct nat_eq places.items }
         ensures { result ≡ record { pid = pid; places = rising places.items } }
     {
-        PageRun {
-            pid,
-            places: KeptPlaces::Many(places),
-        }
+        PageRun { pid, places }
     }
 
     /// Makes the run of the page with this id and this single place. Does not allocate.
-    pub fn of_one(pid: Pid, place: usize) -> PageRun
+    pub fn of_one(alloc: Global, pid: Pid, place: usize) -> PageRun
         ensures { result ≡ record { pid = pid; places = place ∷ [] } }
     {
-        PageRun {
-            pid,
-            places: KeptPlaces::One(place),
-        }
+        let mut places = SmallVec::new(alloc);
+        places.push_reserved(place);
+        PageRun { pid, places }
     }
 
     /// Returns the page id.
@@ -71,9 +62,6 @@ impl PageRun {
         ensures same { IsPermutation self.now.places result.now }
         ensures rising { IsStrictlyIncreasing self.now.places }
     {
-        match &self.places {
-            KeptPlaces::One(place) => slice::from_ref(place),
-            KeptPlaces::Many(places) => places.as_slice(),
-        }
+        self.places.as_slice()
     }
 }

@@ -12,6 +12,7 @@ use crate::batch::BatchWithEnds;
 use crate::buckets::sort_by_buckets;
 use keys::KeyRef;
 use rayon::prelude::*;
+use smallvec::SmallVec;
 use std::alloc::{AllocError, Global};
 use std::thread::{Threads, join};
 
@@ -184,7 +185,10 @@ pub(crate) fn in_batch_order(
 }
 
 /// Returns the places of these entries, in their order.
-pub(crate) fn in_key_order(alloc: Global, keyed: &[Keyed<'_>]) -> Result<Vec<usize>, AllocError>
+pub(crate) fn in_key_order(
+    alloc: Global,
+    keyed: &[Keyed<'_>],
+) -> Result<SmallVec<usize, 4>, AllocError>
     ensures { IfOk result (λ places. places.items ≡ places_of keyed.now) }
 {
     keyed.iter().map(|entry| entry.1).collect(alloc)

@@ -1,5 +1,7 @@
 use Rattle.std.proofs.Common.{◌∙◌, ap, sym, eqb-true}
+use Rattle.std.specs.List.Sorted.{IsPermutation}
 use Rattle.routing.specs.Routes.{Route}
+use Rattle.routing.specs.Shares.{all_of, share_of_lent}
 use Rattle.routing.proofs.BatchOrder.{order_of_one, same_parts}
 use Rattle.routing.proofs.RisingPlaces.{distinct_places, in_batch_order_by, own_places}
 use Rattle.routing.proofs.descent.page_run_of.Goals as goal
@@ -17,8 +19,11 @@ returns-then-not-has_range_at c =
 
 pub new-requires-2 : goal.new-requires-2
 new-requires-2 c =
-    distinct_places c.args.share.now _ c.requires (same_parts c.args.share.now _ _ _ c.keyed-keyed.ensures c.reaching-reaching.ensures c.in_ok-in_batch_order.ensures.same)
+    rw c.from_vec.ensures.items
+    (distinct_places c.args.share.now _ c.requires (same_parts c.args.share.now _ _ _ c.keyed-keyed.ensures c.reaching-reaching.ensures c.in_ok-places.ensures.same))
 
 pub returns : goal.returns
 returns c =
-    in_batch_order_by _ _ _ _ c.new-2.ensures c.pid-pid.ensures (same_parts c.args.share.now _ _ _ c.keyed-keyed.ensures c.reaching-reaching.ensures c.in_ok-in_batch_order.ensures.same)
+    let same : IsPermutation (all_of (share_of_lent c.args.share.now)) c.from_vec.result.items =
+    rw c.from_vec.ensures.items (same_parts c.args.share.now _ _ _ c.keyed-keyed.ensures c.reaching-reaching.ensures c.in_ok-places.ensures.same) in
+    in_batch_order_by _ _ _ _ c.new-2.ensures c.pid-pid.ensures same
