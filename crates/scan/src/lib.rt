@@ -2,6 +2,7 @@
 //! to leaf and does not allocate. For a batch, the crate also computes keys at which its scans may end early.
 #![tactic(auto)]
 
+mod ahead;
 mod bounded;
 mod children;
 mod direction;

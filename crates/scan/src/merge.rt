@@ -9,6 +9,7 @@ ghost use Rattle.scan.specs.Direction.{IsNext, after, in_turn, left_at, until};
 ghost use Rattle.scan.specs.Edge.{beyond, is_under};
 ghost use Rattle.scan.specs.Merge.{merged, ArePairsNext, HasUntil};
 
+use crate::ahead::Ahead;
 use crate::direction::{Direction, Towards, next_place};
 use crate::edge::{Edge, count_under};
 use delta_chain::{Base, ChangeList, KeyList};
@@ -23,8 +24,10 @@ use std::marker::{Model, PhantomData};
 pub(crate) struct Merge<'a, W: Towards> {
     base: &'a Base<Value<Global>, Global>,
     at: usize,
+    ahead: Ahead,
     changes: ChangeList<'a, Value<Global>, Global>,
     change_at: usize,
+    changes_ahead: Ahead,
     towards: PhantomData<W>,
 }
 
@@ -53,8 +56,10 @@ impl<'a, W: Towards> Merge<'a, W> {
         Merge {
             base,
             at: count_under(base, edge),
+            ahead: Ahead::new(),
             change_at: count_under(&changes, edge),
             changes,
+            changes_ahead: Ahead::new(),
             towards: PhantomData,
         }
     }
@@ -75,6 +80,8 @@ impl<'a, W: Towards> Merge<'a, W> {
         let at = past(W::direction(), self.base, self.at, &self.changes, place)?;
         self.at = at;
         self.change_at = later;
+        self.changes_ahead
+            .pass(W::direction(), &self.changes, place);
         Some(self.changes.change(place))
     }
 
@@ -89,6 +96,7 @@ impl<'a, W: Towards> Merge<'a, W> {
         let base = self.base;
         let (place, at) = next_place(W::direction(), self.at, base.len())?;
         self.at = at;
+        self.ahead.pass(W::direction(), base, place);
         Some((base.key(place), base.cell(place)))
     }
 }
