@@ -3,8 +3,11 @@ ghost use Rattle.std.specs.Prelude.{◌≡◌, ◌+◌, ◌<◌, ◌≤◌, ◌+
 ghost use Rattle.std.specs.List.{All};
 
 use crate::entry::Gate;
-use crate::{Turn, Work};
+use crate::{Depth, Turn, Work};
 use std::alloc::Allocator;
+
+// Of how many jobs the memory is read together.
+const AHEAD: usize = 16;
 
 /// Does the jobs one after the other, and returns their outputs in order. If allocation fails, for the list of outputs
 /// or in a job, undoes all work and returns all jobs unchanged, in order; undoing does not allocate. Calls the gate for
@@ -32,6 +35,7 @@ pub(crate) fn work_in_turn<W: Work, G: Gate, A: Allocator + Copy>(
         if dones.len() % grain == 0 {
             gate.enter(first.wrapping_add((dones.len() / grain) as u64));
         }
+        look_ahead(work, &job, &jobs, &mut dones);
         match work.work(job) {
             Turn::Done(done) => dones.push_reserved(done),
             Turn::Back(job) => {
@@ -42,6 +46,35 @@ pub(crate) fn work_in_turn<W: Work, G: Gate, A: Allocator + Copy>(
         }
     }
     Ok(dones)
+}
+
+// Reads memory of this job and of the jobs that come next, if no earlier call did. Does not change the outputs.
+fn look_ahead<W: Work, A: Allocator + Copy>(
+    work: &W,
+    job: &W::Job,
+    jobs: &[W::Job],
+    dones: &mut Vec<W::Done, A>,
+)
+    ensures items { dones.new.items ≡ dones.old.items }
+    ensures room { vec_capacity dones.old ≤ vec_capacity dones.new }
+{
+    // What the condition does has no effect, but the compiler would leave out reads without a result.
+    if dones.len() % AHEAD == 0 && look_at(work, job, jobs) == u64::MAX {
+        let _fits = dones.reserve(1);
+    }
+}
+
+// Reads memory of this job and of the jobs that come next, which are at the end of the list.
+fn look_at<W: Work>(work: &W, job: &W::Job, jobs: &[W::Job]) -> u64 {
+    let next = &jobs[jobs.len().saturating_sub(AHEAD - 1)..];
+    let mut sum: u64 = 0;
+    for depth in [Depth::Near, Depth::Far] {
+        sum = sum.wrapping_add(work.look(job, depth));
+        for job in next {
+            sum = sum.wrapping_add(work.look(job, depth));
+        }
+    }
+    sum
 }
 
 /// Undoes all work, and returns the jobs in order, followed by the given ones. Does not allocate, because the given

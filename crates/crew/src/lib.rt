@@ -35,6 +35,13 @@ pub enum Turn<J, D> {
     Back(J),
 }
 
+/// How much of a job's memory is read ahead.
+#[derive(Clone, Copy, PartialEq, Eq)]
+pub enum Depth {
+    Near,
+    Far,
+}
+
 /// A kind of work. Its jobs and outputs can be sent between threads, and the work itself can be shared by threads.
 pub trait Work: Sync {
     /// The input of the work. It is moved, so that a page is at one place at any time.
@@ -68,6 +75,13 @@ pub trait Work: Sync {
         ensures origin { IfDone result (λ done. origin done ≡ held job) }
         ensures made { IfDone result (λ done. outcome done ≡ made self.now (held job)) }
         ensures back { IfBack result (λ again. held again ≡ held job) };
+
+    /// Reads memory that `work` will read for this job: with `Depth::Near` what the job itself refers to, with
+    /// `Depth::Far` what that refers to. The rounds call this for several jobs before they do them, so that the processor
+    /// waits for their memory once. The result means nothing.
+    fn look(&self, _job: &Self::Job, _depth: Depth) -> u64 {
+        0
+    }
 
     /// Restores the job from its output. Does not allocate.
     fn undo(&self, done: Self::Done) -> Self::Job

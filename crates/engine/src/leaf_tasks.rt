@@ -8,7 +8,7 @@ ghost use Rattle.engine.specs.Tasks.{task_held, done_held, done_made};
 ghost use Rattle.engine.specs.Tasks.TaskHeld.{Reads, Changes};
 ghost use Rattle.engine.specs.Tasks.TaskMade.{Answered, Changed};
 
-use crew::{Turn, Work};
+use crew::{Depth, Turn, Work};
 use keys::{Command, Settings};
 use mapping::Tree;
 use page_runs::{LeafDone, LeafJob, LeafRead, LeafWork, ReadWork};
@@ -69,6 +69,13 @@ impl<'a> Work for BatchWork<'a> {
         match task {
             LeafTask::Read(page_run) => read(self, page_run),
             LeafTask::Change(job) => change(self, job),
+        }
+    }
+
+    fn look(&self, task: &LeafTask, depth: Depth) -> u64 {
+        match task {
+            LeafTask::Read(page_run) => reading(self).look(page_run, depth),
+            LeafTask::Change(job) => changing(self).look(job, depth),
         }
     }
 

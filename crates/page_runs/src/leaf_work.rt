@@ -7,10 +7,11 @@ ghost use Rattle.index_page.specs.Page.PageOfKind.{Leaf};
 ghost use Rattle.page_runs.specs.LeafOutcome.{leaf_before};
 ghost use Rattle.page_runs.specs.LeafWork.{IsWorkedLeaf};
 
+use crate::ahead::look_at;
 use crate::class::Class;
 use crate::leaf_after::{LeafWayBack, put_leaf_run};
 use crate::replay::replay_run;
-use crew::{Turn, Work};
+use crew::{Depth, Turn, Work};
 use index_page::{Page, PageInMemory};
 use keys::{Command, Pid, Pieces, Settings};
 use routing::PageRun;
@@ -176,6 +177,13 @@ impl<'a> Work for LeafWork<'a> {
                 page: Page::of_memory(page),
                 page_run,
             }),
+        }
+    }
+
+    fn look(&self, job: &LeafJob, depth: Depth) -> u64 {
+        match job.page.as_leaf() {
+            Some(leaf) => look_at(self.commands, &job.page_run, leaf.whole(), depth),
+            None => 0,
         }
     }
 

@@ -3,6 +3,7 @@
 //! from the public module `laws`.
 #![tactic(auto)]
 
+mod ahead;
 mod changes;
 mod changes_from;
 mod class;

@@ -5,8 +5,9 @@ ghost use Rattle.std.specs.Option.{option_to_list};
 ghost use Rattle.page_runs.specs.Reads.{is_read_only, is_only_read};
 ghost use Rattle.page_runs.specs.Replies.{commands_at};
 
+use crate::ahead::look_at;
 use crate::replay::replay_run;
-use crew::{Turn, Work};
+use crew::{Depth, Turn, Work};
 use keys::{Command, Pieces};
 use mapping::Tree;
 use routing::PageRun;
@@ -85,6 +86,16 @@ impl<'a> Work for ReadWork<'a> {
         match replay_run(self.alloc, self.commands, leaf.whole(), &page_run) {
             Ok((_no_run, pieces, _bounds)) => Turn::Done(LeafRead { page_run, pieces }),
             Err(_) => Turn::Back(page_run),
+        }
+    }
+
+    fn look(&self, page_run: &PageRun, depth: Depth) -> u64 {
+        let Some(page) = self.tree.page(page_run.pid()) else {
+            return 0;
+        };
+        match page.as_leaf() {
+            Some(leaf) => look_at(self.commands, page_run, leaf.whole(), depth),
+            None => 0,
         }
     }
 

@@ -19,7 +19,8 @@ returns-in-Back-clause-held g c =
     let jobs = c.pop.new.self.items in let dones = c.loop-job.dones.items in
     let popped : c.loop-job.jobs.items ≡ jobs ++ c.in-Some.job ∷ [] = c.in-Some.ensures.items in
     let was = rw popped at c.loop-job.invariant.origin in
-    c.undo_all.ensures ∙ ap (λ js. map origin dones ++ map held js) (c.reverse-in-Back.ensures.items ∙ ap reverse c.push_reserved-in-Back.ensures.items)
+    c.undo_all.ensures ∙ ap (λ ds. map origin ds ++ map held c.reverse-in-Back.new.self.items) c.look_ahead.ensures.items
+    ∙ ap (λ js. map origin dones ++ map held js) (c.reverse-in-Back.ensures.items ∙ ap reverse c.push_reserved-in-Back.ensures.items)
     ∙ one_back held origin jobs c.in-Some.job dones (map held c.args.jobs.items) was c.in-Back.job c.in-Back.ensures.back
 
 pub loop-job-preserved : goal.loop-job-preserved
@@ -30,13 +31,14 @@ loop-job-preserved g c =
     let was = rw popped at c.loop-job.invariant.origin in
     let made = c.in-Done.ensures.made ∙ ap (g.W.Work.made c.args.work.now) (sym c.in-Done.ensures.origin) in
     let fewer = ap length popped in let split = length-append jobs (c.in-Some.job ∷ []) in
-    let more = ap length c.push_reserved.ensures.items in let joined = length-append dones (done ∷ []) in
+    let pushed : c.push_reserved.new.self.items ≡ dones ++ done ∷ [] = c.push_reserved.ensures.items ∙ ap (λ ds. ds ++ done ∷ []) c.look_ahead.ensures.items in
+    let more = ap length pushed in let joined = length-append dones (done ∷ []) in
     record {
       accepted = all_before (λ job. g.W.Work.accepts c.args.work.now (held job)) jobs c.in-Some.job (rw popped at c.loop-job.invariant.accepted);
-      room = omega (arith, fewer, split, more, joined, c.push_reserved.ensures.capacity, c.loop-job.invariant.room);
+      room = omega (arith, fewer, split, more, joined, c.push_reserved.ensures.capacity, c.look_ahead.ensures.room, c.loop-job.invariant.room);
       way_back = omega (arith, fewer, split, more, joined, c.in-Some.ensures.capacity, c.loop-job.invariant.way_back);
-      origin = rw c.push_reserved.ensures.items (one_done held origin jobs c.in-Some.job dones (map held c.args.jobs.items) was done c.in-Done.ensures.origin);
-      made = rw c.push_reserved.ensures.items (made_of_both origin g.W.Work.outcome (g.W.Work.made c.args.work.now) dones (done ∷ []) c.loop-job.invariant.made (ap (λ m. m ∷ []) made));
+      origin = rw pushed (one_done held origin jobs c.in-Some.job dones (map held c.args.jobs.items) was done c.in-Done.ensures.origin);
+      made = rw pushed (made_of_both origin g.W.Work.outcome (g.W.Work.made c.args.work.now) dones (done ∷ []) c.loop-job.invariant.made (ap (λ m. m ∷ []) made));
     }
 
 pub returns-clause-origin : goal.returns-clause-origin
