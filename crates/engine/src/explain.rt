@@ -1,6 +1,6 @@
 //! Explanations of faults: what a fault means, and what to do about it.
 use crate::file_store::OpenFault;
-use keys::Fault;
+use keys::{Fault, Field};
 use std::io::ErrorKind;
 use std::{fmt, io};
 
@@ -32,11 +32,10 @@ pub fn meaning(fault: &Fault) -> &'static str {
     }
 }
 
-/// Returns what to do about a fault, in one or two sentences, or an empty string if there is no advice.
+/// Returns what to do about a fault, in a few sentences, or an empty string if there is no advice.
 pub fn remedy(fault: &Fault) -> &'static str {
     match fault {
-        Fault::BadSettings(_) =>
-            "A segment has to hold a full page of the longest keys and values.",
+        Fault::BadSettings(field) => range_of(*field),
         Fault::KeyTooLong(_) => {
             "Use a shorter key, or copy the store with a larger max_key in its settings."
         }
@@ -50,17 +49,37 @@ pub fn remedy(fault: &Fault) -> &'static str {
             "Make room if the device is full, and open the store again. It then has the pairs of the last flush that \
             succeeded, or of the flush that failed."
         }
-        Fault::Full => {
-            "The flush of a handle has cleaned the log; otherwise clean it. If it is still full, copy the store to a disk \
-            with more segments."
+        Fault::Full => "If cleaning does not help, copy the store into a larger log.",
+        Fault::NotAStore
+        | Fault::NoSlot
+        | Fault::BadSegment(_)
+        | Fault::BadFrame(_, _)
+        | Fault::BadStructure(_) => {
+            "Check the path, or restore a backup. After a crash during creation, remove the file. If the store is still \
+            open, copy it."
         }
         _ => "",
+    }
+}
+
+// Returns what a setting may be, in a sentence.
+fn range_of(field: Field) -> &'static str {
+    match field {
+        Field::Fan => "It must be from 4 to 64.",
+        Field::Chain => "It must be from 1 to 16.",
+        Field::MaxKey => "It must be from 1 to 255.",
+        Field::MaxValue => "It must be from 0 to 1024.",
+        Field::SegSize => {
+            "It must be from 256 to 1048576, and a segment has to hold a full page of the longest keys and values."
+        }
+        Field::Segments => "It must be from 3 to 65536, which limits the number of pairs.",
     }
 }
 
 /// Returns what to do if a file cannot be used for this reason, or an empty string if there is no advice.
 pub fn file_remedy(reason: &io::Error) -> &'static str {
     match reason.kind() {
+        ErrorKind::NotFound => "The file, or the folder of a new file, has to exist.",
         ErrorKind::ReadOnlyFilesystem => "The store can only be opened for reading there.",
         ErrorKind::WouldBlock => "Another program has locked the file. Wait until it ends.",
         ErrorKind::AlreadyExists => "A new store needs a path without a file.",

@@ -32,7 +32,7 @@ const TRIES: u64 = 10;
 
 const PAUSE: u64 = 100;
 
-/// Why the store in a file was not opened. Prints the path, the fault, and what to do about it.
+/// Why the store in a file was not opened. Prints the path, what is wrong and, often, what to do about it.
 #[derive(Debug, Drop)]
 pub struct OpenError {
     /// The path of the file, or `None` if there was no memory for a copy of it.
