@@ -153,7 +153,10 @@ impl<'a, R, P: Observer> Session<'a, R, P> {
         let count = count_first(&mut store.prefix(bytes), limit);
         buffer.put_numbers(NumberLine::Rows(count as usize), out)?;
         // The rows are dropped before the result is tested, which makes the proof short.
-        let put = put_first(&mut store.prefix(bytes), limit, &mut buffer, out);
+        let put = {
+            let mut rows = store.prefix(bytes);
+            put_first(&mut rows, limit, &mut buffer, out)
+        };
         put?;
         buffer.write(out)
     }

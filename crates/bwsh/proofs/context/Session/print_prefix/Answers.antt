@@ -37,7 +37,7 @@ returns-in_err-put g c =
     Writes-put g.O.Write.contents first c.args.out.now last.buffer last.out (line ++ flat_map shown_row rows) (shown_rows rows ∷ []) early end.result c.new-buffer.ensures
     (rows_shown rows count (c.count_first-count.ensures ∙ ap (λ (l : List (List ℕ × List ℕ)). min c.args.limit (length l)) c.prefix.ensures ∙ sym (length-take c.args.limit (with_prefix c.args.bytes.now (contents c.args.store.now.store.tree))))) p
     (Puts-then g.O.Write.contents first c.args.out.now mid.self mid.out last.buffer last.out line (flat_map shown_row rows) tt (Err early) c.in_ok-put_numbers.ensures
-    (Puts-as g.O.Write.contents mid.self mid.out last.buffer last.out _ (flat_map shown_row rows) (Err early) (ap (flat_map shown_row) (ap (take c.args.limit) c.prefix-10.ensures)) c.in_err-put.ensures))
+    (Puts-as g.O.Write.contents mid.self mid.out last.buffer last.out _ (flat_map shown_row rows) (Err early) (ap (flat_map shown_row) (ap (take c.args.limit) c.prefix-rows.ensures)) c.in_err-put.ensures))
 
 pub returns : goal.returns
 returns g c =
@@ -51,5 +51,5 @@ returns g c =
     Writes-put_out g.O.Write.contents first c.args.out.now after.buffer after.out last.self last.out (line ++ flat_map shown_row rows) (shown_rows rows ∷ []) tt c.write.result c.new-buffer.ensures
     (rows_shown rows count (c.count_first-count.ensures ∙ ap (λ (l : List (List ℕ × List ℕ)). min c.args.limit (length l)) c.prefix.ensures ∙ sym (length-take c.args.limit (with_prefix c.args.bytes.now (contents c.args.store.now.store.tree)))))
     (Puts-then g.O.Write.contents first c.args.out.now mid.self mid.out after.buffer after.out line (flat_map shown_row rows) tt (Ok tt) c.in_ok-put_numbers.ensures
-    (Puts-as g.O.Write.contents mid.self mid.out after.buffer after.out _ (flat_map shown_row rows) (Ok tt) (ap (flat_map shown_row) (ap (take c.args.limit) c.prefix-10.ensures)) c.in_ok-put.ensures))
+    (Puts-as g.O.Write.contents mid.self mid.out after.buffer after.out _ (flat_map shown_row rows) (Ok tt) (ap (flat_map shown_row) (ap (take c.args.limit) c.prefix-rows.ensures)) c.in_ok-put.ensures))
     c.write.ensures.puts c.write.ensures.text
