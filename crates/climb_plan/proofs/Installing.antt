@@ -12,7 +12,6 @@ use Rattle.index_page.specs.Page.{PageOfKind}
 use Rattle.index_page.proofs.ListLemmas.{all_apart}
 use Rattle.mapping.specs.Tree.{listed_at}
 use Rattle.mapping.specs.Table.{Mapping, is_same_pid, place_of, page_of, at_home, with_place, log_outdated, freed}
-use Rattle.mapping.specs.Outdate.{outdate_all}
 use Rattle.mapping.specs.TreeInMemory.{TreeInMemory}
 use Rattle.mapping.specs.Proper.{Distinct}
 use Rattle.mapping.proofs.TableLemmas.{total, same_pid, differ, listed-insert_entry}

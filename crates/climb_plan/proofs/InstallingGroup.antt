@@ -1,7 +1,6 @@
 -- A group is replaced: its members' pages are taken out of the tree, and then its new pages are put into it.
 use Rattle.std.specs.Prelude.{◌≡◌, ◌≢◌, ℕ, ◌-◌, ◌<◌, false, List, [], ◌∷◌, ◌++◌, take, drop, length, get_or, Option, Some, None, IsSome}
 use Rattle.std.proofs.Common.{refl, sym, ap, ◌∙◌, subst, arith}
-use Rattle.std.specs.List.{AllByRecursion}
 use Rattle.keys.specs.declared.settings.Settings.{Settings}
 use Rattle.index_page.specs.Page.{PageOfKind}
 use Rattle.index_page.proofs.ListLemmas.{all_apart}
@@ -13,7 +12,7 @@ use Rattle.mapping.specs.TreeInMemory.{TreeInMemory}
 use Rattle.split_plan.specs.Pieces.{CanJoin, group_made}
 use Rattle.climb_plan.specs.Rewriting.{Remade}
 use Rattle.climb_plan.specs.Installing.{page_or_none, pages_under, members_freed, members_taken, CanInstall}
-use Rattle.climb_plan.proofs.Installing.{KeepsOthers, AreAllAtHome, tree_freed, place_here, placed_apart, all_kept, under_apart, put_again, rest_is, replaced_by, distinct_first}
+use Rattle.climb_plan.proofs.Installing.{AreAllAtHome, tree_freed, place_here, placed_apart, all_kept, under_apart, put_again, rest_is, replaced_by, distinct_first}
 use Rattle.climb_plan.proofs.InstallingLemmas.{not_among, others-members_freed, put_before_freed, rising_with_place}
 
 -- ---- the members are taken

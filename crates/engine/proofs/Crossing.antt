@@ -16,6 +16,8 @@ use Rattle.mapping.proofs.Crossing.{Tree-sync}
 use Rattle.page_runs.proofs.Crossing.{done_send}
 use Rattle.page_runs.proofs.read_work.LeafRead.TheSendSync as leaf_read
 use Rattle.page_runs.specs.contracts.read_work.ReadWork as ReadWork
+use Rattle.routing.proofs.page_run.PageRun.TheSendSync as page_run
+use Rattle.engine.specs.contracts.group_reads.GroupReads as GroupReads
 use Rattle.engine.specs.contracts.leaf_tasks.BatchWork as BatchWork
 use Rattle.engine.specs.contracts.leaf_tasks.TaskDone as TaskDone
 
@@ -29,6 +31,9 @@ command_sync = command.the_sync Global.the_row ghosts heap.sync
 
 pub read_sync : (κ : NamedLft) → IsSync (ReadWork.the_row κ)
 read_sync κ = recorded_sync _ _ _ (ReadWork.the_type κ).to_one (struct_sync (shape (ReadWork.the_type κ)) (search sendable, (shr_slice_sync _ _ _ command_sync, (tree_lent κ, tt))))
+
+pub groups_sync : (κ : NamedLft) → IsSync (GroupReads.the_row κ)
+groups_sync κ = recorded_sync _ _ _ (GroupReads.the_type κ).to_one (struct_sync (shape (GroupReads.the_type κ)) (search sendable, (shr_slice_sync _ _ _ command_sync, (tree_lent κ, (shr_slice_sync _ _ _ page_run.the_sync, tt)))))
 
 pub work_sync : (κ : NamedLft) → IsSync (BatchWork.the_row κ)
 work_sync κ = recorded_sync _ _ _ (BatchWork.the_type κ).to_one (struct_sync (shape (BatchWork.the_type κ)) (search sendable, (settings.the_field_sync, (shr_slice_sync _ _ _ command_sync, (tree_lent κ, tt)))))

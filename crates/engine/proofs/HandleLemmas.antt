@@ -25,7 +25,6 @@ use Rattle.engine.specs.State.{State}
 use Rattle.engine.specs.Tokens.{is_new, was_deleted, wiped_count}
 use Rattle.engine.specs.declared.store.durable.Unwritten.{Unwritten}
 use Rattle.engine.specs.declared.store.durable.Unwritten.TheVariants.{Undone, InDoubt}
-use Rattle.engine.proofs.NumbersLemmas.{all_within}
 use Rattle.engine.proofs.PairCounts.{pairs_after-replies}
 use Rattle.engine.proofs.RefusedCalls.{refused_as}
 

@@ -32,6 +32,7 @@ mod Executed
 mod FileStoreLemmas
 mod FirstRow
 mod FlushDone
+mod GroupLemmas
 mod HandleLemmas
 mod HiddenCopies
 mod HiddenLemmas

@@ -8,7 +8,7 @@ use Rattle.keys.specs.Footprint.{Span, One, Range, span_of, first_of, is_range}
 use Rattle.keys.specs.OrderedMap.{value_at}
 use Rattle.keys.specs.declared.command.Command.{Command}
 use Rattle.delta_chain.specs.Layers.{Layers, entries_of}
-use Rattle.index_page.specs.Page.{Page, PageOfKind}
+use Rattle.index_page.specs.Page.{Page}
 use Rattle.index_page.specs.Page.PageOfKind.{Leaf}
 use Rattle.index_page.specs.Range.{is_within}
 use Rattle.index_page.specs.Children.{Place, is_place_for}

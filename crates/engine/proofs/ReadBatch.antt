@@ -14,12 +14,12 @@ use Rattle.mapping.specs.Table.{page_of}
 use Rattle.mapping.specs.TreeInMemory.{TreeInMemory}
 use Rattle.routing.specs.Routes.{Route}
 use Rattle.page_runs.specs.LeafWork.{LeafMade, leaf_made}
-use Rattle.page_runs.specs.Reads.{IsRouteToRead, ReadLeaf, is_read_only, is_only_read, route_answers}
+use Rattle.page_runs.specs.Reads.{IsRouteToRead, is_read_only, is_only_read, route_answers}
 use Rattle.page_runs.specs.Replies.{commands_at, ArePlacesOf}
 use Rattle.replies.specs.ByPlace.{AreAnswers, blank_of, reply_at, with_pieces}
 use Rattle.replies.proofs.Placing.{replies-with_pieces}
 use Rattle.climb_plan.proofs.Installing.{tree_taken}
-use Rattle.engine.specs.Leaves.{IsLeafAt, route_pids, leaf_held, leaves_made, answers, read_answers, written_routes}
+use Rattle.engine.specs.Leaves.{IsLeafAt, route_pids, leaf_held, leaves_made, answers, written_routes}
 use Rattle.engine.proofs.TaskLemmas.{answers_by}
 
 both_look : (a b : Bool) → (a && b) ≡ true → (a ≡ true) × (b ≡ true)
@@ -63,17 +63,18 @@ read_as_jobs s cs m (r ∷ rs) a =
     ∙ ap (λ (xs : List (List (Piece Global))). (leaf_made s cs (leaf_held m.table r)).pieces ∷ xs) (read_as_jobs s cs m rs a.1)
 
 -- their answers
-pub answers_read : (s : Settings) (cs : List (Command Global)) (m : TreeInMemory) (rs : List Route) (ds : List ReadLeaf) → AllByRecursion (λ pid. IsLeafAt (page_of m.table pid)) (route_pids rs) → read_answers ds ≡ map (route_answers m cs) rs
-    → flat (read_answers ds) ≡ answers (leaves_made s cs m.table rs)
-answers_read s cs m rs ds a e = ap (λ (xs : List (List (Piece Global))). flat xs) (e ∙ read_as_jobs s cs m rs a)
+pub answers_read : (s : Settings) (cs : List (Command Global)) (m : TreeInMemory) (rs : List Route) → AllByRecursion (λ pid. IsLeafAt (page_of m.table pid)) (route_pids rs)
+    → flat (map (route_answers m cs) rs) ≡ answers (leaves_made s cs m.table rs)
+answers_read s cs m rs a = ap (λ (xs : List (List (Piece Global))). flat xs) (read_as_jobs s cs m rs a)
 
--- the next leaf's answers are the first of the remaining ones
-pub read_next : (d : ReadLeaf) (ds all : List ReadLeaf) (ps : List (Piece Global)) → all ≡ d ∷ ds → ps ≡ d.pieces → read_answers all ≡ ps ∷ read_answers ds
-read_next d ds all ps e p = ap (λ (xs : List ReadLeaf). read_answers xs) e ∙ ap (λ (qs : List (Piece Global)). qs ∷ read_answers ds) (sym p)
+module _ {D : Type 0} (pieces : D → List (Piece Global)) where
+  -- the next answers are the first of the remaining ones
+  pub read_next : (d : D) (ds all : List D) (ps : List (Piece Global)) → all ≡ d ∷ ds → ps ≡ pieces d → map pieces all ≡ ps ∷ map pieces ds
+  read_next d ds all ps e p = ap (λ (xs : List D). map pieces xs) e ∙ ap (λ (qs : List (Piece Global)). qs ∷ map pieces ds) (sym p)
 
--- when no leaf remains, each reply is at its place
-pub all_read : (cs : List (Command Global)) (left : List ReadLeaf) (all : List (Piece Global)) (rs : List (Reply Global)) → left ≡ [] → AreAnswers cs all → with_pieces cs (flat (read_answers left)) rs ≡ with_pieces cs all (map blank_of cs)
-    → (place : ℕ) → slice_get rs place ≡ reply_at cs all place
-all_read cs left all rs none a h place =
-    let made : rs ≡ with_pieces cs all (map blank_of cs) = rw none at h in
-    ap (λ (qs : List (Reply Global)). slice_get qs place) made ∙ replies-with_pieces cs all a place
+  -- when no answers remain, each reply is at its place
+  pub all_read : (cs : List (Command Global)) (left : List D) (all : List (Piece Global)) (rs : List (Reply Global)) → left ≡ [] → AreAnswers cs all → with_pieces cs (flat (map pieces left)) rs ≡ with_pieces cs all (map blank_of cs)
+      → (place : ℕ) → slice_get rs place ≡ reply_at cs all place
+  all_read cs left all rs none a h place =
+      let made : rs ≡ with_pieces cs all (map blank_of cs) = rw none at h in
+      ap (λ (qs : List (Reply Global)). slice_get qs place) made ∙ replies-with_pieces cs all a place

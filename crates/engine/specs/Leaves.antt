@@ -17,7 +17,7 @@ use Rattle.mapping.specs.Tree.{Tree}
 use Rattle.routing.specs.Routes.{Route, ranges}
 use Rattle.routing.specs.Runs.{AreRunsOf}
 use Rattle.page_runs.specs.LeafWork.{LeafHeld, LeafMade, LeafUpdate, leaf_made}
-use Rattle.page_runs.specs.Reads.{ReadLeaf, is_only_read}
+use Rattle.page_runs.specs.Reads.{is_only_read}
 pub use Rattle.page_runs.specs.Reads.{IsLeafAt}
 use Rattle.page_runs.specs.Replies.{ArePlacesOf}
 use Rattle.climb_plan.specs.Installing.{page_or_none}
@@ -68,7 +68,3 @@ written_routes cs rs = filter (is_written cs) rs
 -- the updates of leaves without their answers
 abbrev pub without_answers : LeafUpdate → LeafUpdate
 without_answers d = record { held = d.held; made = record { updated = d.made.updated; pieces = [] } }
-
--- the answers of leaves that were read, leaf by leaf
-abbrev pub read_answers : List ReadLeaf → List (List (Piece Global))
-read_answers ds = map (λ d. d.pieces) ds

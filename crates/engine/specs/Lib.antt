@@ -11,6 +11,7 @@ pub mod Compacted
 pub mod Copies
 pub mod Durable
 pub mod FileStore
+pub mod GroupReads
 pub mod Handle
 pub mod Hidden
 pub mod Late

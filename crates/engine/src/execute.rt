@@ -26,7 +26,7 @@ ghost use Rattle.engine.specs.SoundTree.{IsSoundInMemory};
 
 use crate::execute_one::execute_one;
 use crate::leaves::{take_replies, undo_leaves, work_leaves};
-use crate::reads::{are_all_read_only, read_leaves, replies_of};
+use crate::reads::{are_all_read_only, read_replies};
 use climb_plan::laws::{
     the_log_states_stay_true, the_plan_holds_the_map_after_the_commands,
     the_plan_of_a_proper_store_is_proper,
@@ -338,8 +338,7 @@ fn read_routed(
         commands: work.commands,
         tree,
     };
-    let reads = read_leaves(rt, crew, gate, &reading, page_runs)?;
-    let replies = replies_of(work.alloc, work.commands, reads);
+    let replies = read_replies(rt, crew, gate, &reading, page_runs);
     let none = no_leaves(work.alloc);
     match finish(rt, crew, gate, work, tree, replies, none) {
         Ok(replies) => Ok(replies),

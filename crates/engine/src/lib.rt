@@ -8,6 +8,7 @@ mod execute;
 mod execute_one;
 mod explain;
 mod file_store;
+mod group_reads;
 mod handle;
 mod hidden_disk;
 pub mod laws;

@@ -1,7 +1,7 @@
 use Rattle.std.proofs.Common.{◌≡◌, ◌∙◌, refl, ap, sym, map, drop}
 use Rattle.index_page.specs.InMemory.{page_shown}
 use Rattle.climb_plan.specs.Rewriting.{Remade}
-use Rattle.climb_plan.proofs.Installing.{first_member, replaced_by, fresh_away, group_done}
+use Rattle.climb_plan.proofs.Installing.{first_member, fresh_away, group_done}
 use Rattle.climb_plan.proofs.InstallingGroup.{members_at_home, pieces_of_taken, first_is_empty, first_is_put}
 use Rattle.climb_plan.proofs.install.install.Goals as goal
 

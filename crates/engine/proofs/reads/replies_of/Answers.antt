@@ -8,15 +8,15 @@ use Rattle.engine.proofs.TaskLemmas.{gathered_next, carried}
 use Rattle.engine.proofs.reads.replies_of.Goals as goal
 
 pub with_answers-replies-requires-clause-within : goal.with_answers-replies-requires-clause-within
-with_answers-replies-requires-clause-within c =
-    within-page c.args.commands.now _ _ _ (read_next c.in-Some.read _ _ _ c.in-Some.ensures.steps.0 c.into_pieces-pieces.ensures) c.loop-read.invariant.within
+with_answers-replies-requires-clause-within g c =
+    within-page c.args.commands.now _ _ _ (read_next g.R.Answers.answers c.in-Some.read _ _ _ c.in-Some.ensures.steps.0 c.into_pieces-pieces.ensures) c.loop-read.invariant.within
 
 pub loop-read-preserved : goal.loop-read-preserved
-loop-read-preserved c =
+loop-read-preserved g c =
     let at = c.loop-read in
     let cs = c.args.commands.now in
     let page = c.into_pieces-pieces.result in
-    let left = read_next c.in-Some.read _ _ _ c.in-Some.ensures.steps.0 c.into_pieces-pieces.ensures in
+    let left = read_next g.R.Answers.answers c.in-Some.read _ _ _ c.in-Some.ensures.steps.0 c.into_pieces-pieces.ensures in
     record {
       count = carried at.replies c.with_answers-replies.result _ _ _ c.with_answers-replies.ensures (λ x y e h. ap length e ∙ length-with_pieces cs page x.items ∙ h) at.invariant.count;
       within = within-pages cs _ _ _ left at.invariant.within;
@@ -24,6 +24,6 @@ loop-read-preserved c =
     }
 
 pub returns : goal.returns
-returns c =
+returns g c =
     let at = c.loop-read in
-    weaker_ok _ _ at.replies (λ x h. all_read c.args.commands.now _ _ x.items (nil_from_length (into_iter_items at.read-iterator) (omega (arith, c.in-None.ensures.steps.0))) c.requires h) at.invariant.gathered
+    weaker_ok _ _ at.replies (λ x h. all_read g.R.Answers.answers c.args.commands.now _ _ x.items (nil_from_length (into_iter_items at.read-iterator) (omega (arith, c.in-None.ensures.steps.0))) c.requires h) at.invariant.gathered

@@ -1,7 +1,6 @@
-use Rattle.std.proofs.Common.{◌≡◌, ◌<◌, ◌≤◌, ◌++◌, length, arith, inr, refl, sym, subst, ◌∙◌}
+use Rattle.std.proofs.Common.{◌<◌, ◌≤◌, length, arith, inr, refl, subst, ◌∙◌}
 use Rattle.mapping.specs.Levels.{contents}
 use Rattle.engine.specs.Refusal.{longest_batch}
-use Rattle.engine.specs.Undo.{undo_of, undo_within}
 use Rattle.engine.proofs.UndoAdmitted.{all_undone, too_many}
 use Rattle.engine.proofs.store.Store.push_few.Goals as goal
 

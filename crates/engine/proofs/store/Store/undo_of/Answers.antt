@@ -1,6 +1,6 @@
-use Rattle.std.proofs.Common.{◌<◌, ◌≤◌, length, rules, arith, inl, inr, refl, ap, subst, ◌∙◌}
+use Rattle.std.proofs.Common.{◌<◌, length, arith}
 use Rattle.mapping.specs.Levels.{contents}
-use Rattle.engine.proofs.UndoAdmitted.{all_undo, next_undo, too_long}
+use Rattle.engine.proofs.UndoAdmitted.{next_undo}
 use Rattle.engine.proofs.store.Store.undo_of.Goals as goal
 
 pub loop-command-preserved : goal.loop-command-preserved
