@@ -55,8 +55,7 @@ pub fn remedy(fault: &Fault) -> &'static str {
         | Fault::BadSegment(_)
         | Fault::BadFrame(_, _)
         | Fault::BadStructure(_) => {
-            "Check the path, or restore a backup. After a crash during creation, remove the file. If the store is still \
-            open, copy it."
+            "Check the path, or restore a backup. After a crash during creation, remove the file."
         }
         _ => "",
     }
@@ -94,7 +93,7 @@ fn write_meaning<W: fmt::Write>(fault: &Fault, f: &mut fmt::Formatter<W>) -> fmt
     let meaning = meaning(fault);
     match fault {
         Fault::BadSettings(field) => write!(f, "The setting {field} is out of range."),
-        Fault::KeyTooLong(place) | Fault::ValueTooLong(place) => {
+        Fault::KeyTooLong(place) | Fault::ValueTooLong(place) if *place > 0 => {
             write!(
                 f,
                 "{meaning} It is in command {place} of the batch, counted from 0."

@@ -21,6 +21,7 @@ use std::error::Error;
 use std::fs::{OpenFile, OpenOptions};
 use std::io::{ErrorKind, Read, Seek, Write};
 use std::os::unix::fs::MetadataExt;
+use std::path::Path;
 use std::rt::Files;
 use std::thread::Threads;
 use std::{fmt, fs, io};
@@ -288,4 +289,14 @@ pub fn admit_file<R: Files, F: OpenFile>(rt: &R, file: &F, path: &str) -> io::Re
     } else {
         Err(ErrorKind::WouldBlock.into())
     }
+}
+
+/// Syncs the folder of the file at this path, so that a new name in it stays after a crash.
+pub fn sync_folder<R: Files>(rt: &R, path: &str) -> io::Result<()> {
+    let folder = Path::new(path).parent();
+    let name = match &folder {
+        Some(folder) if !folder.as_str().is_empty() => folder.as_str(),
+        _ => ".",
+    };
+    fs::open(rt, name)?.sync_all()
 }

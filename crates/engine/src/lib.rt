@@ -24,7 +24,7 @@ mod store;
 mod unfinished;
 
 pub use crate::explain::{ExplainedFault, ExplainedOpenFault, file_remedy, meaning, remedy};
-pub use crate::file_store::{OpenFault, admit_file, open_or_create};
+pub use crate::file_store::{OpenFault, admit_file, open_or_create, sync_folder};
 pub use crate::handle::{Batch, Handle, Replies, Token};
 pub use crate::options::{Access, Creation, OpenError, Options, create_disk};
 pub use crate::ordered_store::{

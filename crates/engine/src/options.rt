@@ -11,7 +11,9 @@ ghost use Rattle.engine.specs.Opening.{HasOpenFault, IsFaultOfStore, IsOpenedBy,
 ghost use Rattle.engine.specs.declared.options.Access.TheVariants.{Existing};
 
 use crate::explain::ExplainedOpenFault;
-use crate::file_store::{DiskOfFile, OpenFault, new_store, open_disk, store_of, with_reason};
+use crate::file_store::{
+    DiskOfFile, OpenFault, new_store, open_disk, store_of, sync_folder, with_reason,
+};
 use crate::handle::Handle;
 use crate::refusal::admit_crew;
 use crate::store::Store;
@@ -197,7 +199,8 @@ impl Options {
 
     /// Opens the store in the file at this path, and locks the file as long as the store or its disk exists. Syncs the
     /// file, because an earlier program may have ended between a write and its sync, and recovers the store of the last
-    /// flush. A new store's file gets the length that the settings require, and is synced; its directory is not.
+    /// flush. A new store's file gets the length that the settings require, and is synced. If a store may be created, the
+    /// folder of the file is synced too.
     ///
     /// Fails with `Fault::BadCrew` if the number of workers is out of range, and then with `Fault::BadSettings` and the
     /// first field that is out of range of the settings for a new store; no file was opened or created then. Otherwise
@@ -330,13 +333,17 @@ impl Access {
         }
     }
 
-    // Opens the file and tries to lock it.
+    // Opens the file and tries to lock it. Makes the name of a file that may be new durable.
     fn disk<R: Files>(self, rt: &R, path: &str) -> io::Result<FileDisk<R::File>>
     where
         R::File: LockFile,
     {
         let is_shared = matches!(self, Access::ReadOnly);
-        open_disk(rt, path, &self.how(), is_shared)
+        let disk = open_disk(rt, path, &self.how(), is_shared)?;
+        if matches!(self, Access::Create(_, _)) {
+            sync_folder(rt, path)?;
+        }
+        Ok(disk)
     }
 
     fn how(self) -> OpenOptions {
