@@ -138,9 +138,10 @@ def stay_empty(programs: Programs, library: Path, name: str) -> Outcome:
         return Outcome(left_out="it is not built")
     with new_folder() as folder:
         file = Path(folder) / "store"
-        for fails in EMPTIED:
+        # The last is the sync of the folder.
+        for fails, of in [*((fails, file) for fails in EMPTIED), (FailingCalls("sync"), folder)]:
             file.write_bytes(b"")
-            environment = replace(fails, cuts=True).environment(library, file)
+            environment = replace(fails, cuts=True).environment(library, of)
             ran = run([program, file], b"", Limits(stack=256), environment=environment)
             wrong = differs(ran, 1, b"", f"Error: {file}: Input/output error (os error 5).\n".encode())
             if wrong or file.stat().st_size:

@@ -18,7 +18,7 @@ int strcmp(const char *, const char *);
 long syscall(long, ...);
 void *dlsym(void *, const char *);
 
-enum { READ = 0, WRITE = 1, OPEN = 2, CLOSE = 3, NANOSLEEP = 35, FCNTL = 72, FLOCK = 73, FDATASYNC = 75, FTRUNCATE = 77, EXIT_GROUP = 231, STATX = 332 };
+enum { READ = 0, WRITE = 1, OPEN = 2, CLOSE = 3, NANOSLEEP = 35, FCNTL = 72, FLOCK = 73, FSYNC = 74, FDATASYNC = 75, FTRUNCATE = 77, EXIT_GROUP = 231, STATX = 332 };
 enum { O_WRITES = 03, LOCK_EX = 2, F_DUPFD_CLOEXEC = 1030 };
 
 static const char *kind, *path;
@@ -87,6 +87,8 @@ int statx(int fd, const char *name, int flags, unsigned mask, void *buf) {
 }
 
 int ftruncate(int fd, long length) { return is_file(fd) && fails("cut") ? -1 : syscall(FTRUNCATE, fd, length); }
+
+int fsync(int fd) { return is_file(fd) && fails("sync") ? -1 : syscall(FSYNC, fd); }
 
 int fdatasync(int fd) { return is_file(fd) && fails("sync") ? -1 : syscall(FDATASYNC, fd); }
 
