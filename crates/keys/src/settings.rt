@@ -104,11 +104,12 @@ impl Settings {
     }
 
     /// Returns settings for a store of `pairs` pairs, with keys of at most `key` bytes and values of at most `value`
-    /// bytes: pages of 64 entries, at most four runs in a leaf, and a log with room for a base and four runs of each
-    /// leaf and for one more commit. A log of this size that is full has room again after its segments are cleaned, in
-    /// whatever batches the pairs are put again. If the keys only move on, as in a queue, `pairs` must count all pairs
-    /// that are ever put, unless `flush_cleaning`, `compact` or `tidy` removes the leaves that deletes have emptied: then
-    /// twice the pairs that are there at any time are enough.
+    /// bytes: pages of 32 entries, at most sixteen runs in a leaf, and a log with room for a base and sixteen runs of
+    /// each leaf and for one more commit. These pages write the fewest bytes for small commits; fewer runs need a
+    /// smaller log, and write more (`docs/OPERATING.md` compares the choices). A log of this size that is full has room
+    /// again after its segments are cleaned, in whatever batches the pairs are put again. If the keys only move on, as
+    /// in a queue, `pairs` must count all pairs that are ever put, unless `flush_cleaning`, `compact` or `tidy` removes
+    /// the leaves that deletes have emptied: then twice the pairs that are there at any time are enough.
     ///
     /// Returns `Fault::BadSettings` if `key` or `value` is out of range, or (naming `segments`) if the pairs do not fit
     /// into 65,536 segments of 1 MiB.
@@ -123,15 +124,15 @@ impl Settings {
         within(Field::MaxKey, key, 1, 255)?;
         within(Field::MaxValue, value, 0, 1_024)?;
         let room = room_of_pairs(pairs, key, value);
-        let longest = 33 + key + 64 * (3 + key + (2 + value).max(8));
+        let longest = 33 + key + 32 * (3 + key + (2 + value).max(8));
         let seg_size = (room / 16).min(1_048_576).max(u64::from(8 * longest));
         let segments = room / seg_size + 4;
         if segments > 65_536 {
             return Err(Fault::BadSettings(Field::Segments));
         }
         let settings = Settings {
-            fan: 64,
-            chain: 4,
+            fan: 32,
+            chain: 16,
             max_key: key,
             max_value: value,
             seg_size: seg_size as u32,
@@ -149,7 +150,7 @@ fn room_of_pairs(pairs: u32, key: u32, value: u32) -> u64
 {
     let pairs = u64::from(pairs);
     let (key, value) = (u64::from(key), u64::from(value));
-    7 * (pairs * (5 + key + value) + (pairs / 32 + 1) * (28 + 2 * key))
+    21 * (pairs * (5 + key + value) + (pairs / 16 + 1) * (28 + 2 * key))
 }
 
 // Returns `BadSettings` with `field` if `number` is not from `least` to `greatest`.

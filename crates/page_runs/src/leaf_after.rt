@@ -164,7 +164,8 @@ fn must_replace_leaf(settings: &Settings, page: &LazyValues, run: &LeafRun) -> b
 }
 
 // Replaces the leaf, to which a run was just prepended, by a base of its entries: a new base, or by counting all runs
-// as merged. A thin or fat leaf is merged or split next, from its pairs, so nobody would read its new base.
+// as merged. A fat leaf is split next, from its pairs, so nobody would read its new base. A thin leaf may have no
+// neighbour to be merged with, and stay: without the bound on its runs it would keep every old value.
 fn replace_leaf(
     alloc: Global,
     settings: &Settings,
@@ -184,7 +185,7 @@ fn replace_leaf(
     ensures back { IfErr result (λ again. again ≡ without_newest page) }
 {
     match class_within(settings, bounds) {
-        Some(class) if is_called(class) || is_little(&page) => Ok(mark_all_merged(page, class)),
+        Some(class) if is_fat(class) || is_little(&page) => Ok(mark_all_merged(page, class)),
         _ => merge(alloc, settings, page),
     }
 }
@@ -207,9 +208,9 @@ fn class_within(settings: &Settings, bounds: EntryBounds) -> Option<Class>
     }
 }
 
-// Whether a page of this class is split or merged with others.
-fn is_called(class: Class) -> bool {
-    matches!(class, Class::Thin | Class::Fat)
+// Whether a page of this class is split.
+fn is_fat(class: Class) -> bool {
+    matches!(class, Class::Fat)
 }
 
 // Whether few enough runs and changes lie over the base in memory.
