@@ -1,7 +1,6 @@
 -- How bytes are collected for a segment, and the resulting spans.
-use Rattle.std.proofs.Common.{◌≡◌, ℕ, zero, suc, ◌+◌, ◌-◌, ◌*◌, ◌/◌, ◌%◌, ◌<◌, ◌≤◌, Bool, true, false, nat_le, if◌then◌else◌, List, [], ◌∷◌, ◌++◌, length, length-append, map, drop, replicate, slice_range, refl, sym, ap, ◌∙◌, arith, le-leb, add-one}
+use Rattle.std.proofs.Common.{◌≡◌, ℕ, zero, suc, ◌+◌, ◌-◌, ◌*◌, ◌/◌, ◌%◌, ◌<◌, ◌≤◌, Bool, true, false, nat_le, if◌then◌else◌, List, [], ◌∷◌, ◌++◌, length, length-append, map, replicate, refl, sym, ap, ◌∙◌, arith, le-leb, add-one}
 use Rattle.std.proofs.lemmas.Bool.{lt-leb}
-use Rattle.std.proofs.lemmas.List.{places, same_lists, length-take-le, length-drop, length-replicate}
 use Rattle.std.proofs.Math.Nat.{mul-le-mul_left}
 use Rattle.keys.specs.Bytes.{Bytes}
 use Rattle.frame_codec.specs.Frame.{Frame, bytes_of}
@@ -13,21 +12,6 @@ use Rattle.flush_log.specs.Segments.{segment_header}
 use Rattle.flush_log.specs.Layout.{Span, end_of, longer, filled, begun, opened, placed_from, spans_from, spans, tail_after}
 use Rattle.flush_log.proofs.LayoutLemmas.{opened-segment, opened-end, goes_on_span, next_span}
 use Rattle.flush_log.proofs.ReachLemmas.{frames-are, start-is, text_tail}
-use borrow.Rule.Slice.PartMut.{put_mid}
-
--- bytes that are put after those that are gathered up to a place
-pub put_after : (buffer new : Bytes) (from at size end : ℕ) → from ≤ at → at + size ≡ end → end ≤ length buffer → length new ≡ size
-    → slice_range (put_mid at size buffer new) from end ≡ slice_range buffer from at ++ new
-put_after buffer new from at size end rising is within long = same_lists _ _ (grind (arith, places)) (λ k d h. grind (arith, places))
-
--- and zeros
-pub put_zeros : (buffer new : Bytes) (from at end size : ℕ) → from ≤ at → at ≤ end → end ≤ length buffer → size ≡ end - at → new ≡ replicate size 0
-    → slice_range (put_mid at (end - at) buffer new) from end ≡ slice_range buffer from at ++ replicate (end - at) 0
-put_zeros buffer new from at end size rising upto within long zeros =
-    let same : new ≡ replicate (end - at) 0 = zeros ∙ ap (λ (n : ℕ). replicate n 0) long in
-    let count : length new ≡ end - at = ap (λ (bs : Bytes). length bs) same ∙ length-replicate {A = ℕ} (end - at) 0 in
-    put_after buffer new from at (end - at) end rising (omega arith) within count
-    ∙ ap (λ (bs : Bytes). slice_range buffer from at ++ bs) same
 
 -- ---- what is gathered, and the spans that are left
 
@@ -81,66 +65,43 @@ module _ (s : Settings) where
 
   -- ---- spans of a buffer
 
-  pub end_of_part : (p : Part) (buffer : Bytes) → IsInside s p → s.seg_size ≤ length buffer → end_of (span_of p buffer) ≡ p.end
-  end_of_part p buffer is room =
-      let rising = is.rising in
-      let within = is.within in
-      let following = length-drop p.from buffer in
-      let long = length-take-le (p.end - p.from) (drop p.from buffer) (omega arith) in
-      omega (arith, long)
+  -- a frame that fits in
+  pub open-part : (p : Part) (bytes next frame : Bytes) → p.from + length bytes + length frame ≤ s.seg_size → next ≡ bytes ++ frame → span_of p next ≡ open_after s (span_of p bytes) (frame ∷ [])
+  open-part p bytes next frame fits h = ap (span_of p) h ∙ sym (open-here (span_of p bytes) frame fits)
 
-  -- a segment that is left, in a buffer with zeros to its end
-  abbrev pub whole_of : Part → Part
-  whole_of p = record { segment = p.segment; from = p.from; end = s.seg_size }
-
-  abbrev with_bytes : Part → Bytes → Span
-  with_bytes p bytes = record { segment = p.segment; offset = p.from; bytes = bytes }
-
-  pub whole-filled : (p : Part) (buffer padded : Bytes) → IsInside s p → s.seg_size ≤ length buffer
-      → slice_range padded p.from s.seg_size ≡ slice_range buffer p.from p.end ++ replicate (s.seg_size - p.end) 0 → filled s (span_of p buffer) ≡ span_of (whole_of p) padded
-  whole-filled p buffer padded is room h =
-      ap (λ (n : ℕ). with_bytes p (slice_range buffer p.from p.end ++ replicate (s.seg_size - n) 0)) (end_of_part p buffer is room)
-      ∙ ap (with_bytes p) (sym h)
-
-  -- a frame that fits in leaves nothing, and the part continues with it
-  pub left-part : (p : Part) (buffer bytes : Bytes) → IsInside s p → s.seg_size ≤ length buffer → p.end + length bytes ≤ s.seg_size → left_by s (span_of p buffer) (bytes ∷ []) ≡ []
-  left-part p buffer bytes is room fits = let end = end_of_part p buffer is room in left-here (span_of p buffer) bytes (omega (arith, end, fits))
-
-  pub open-part : (p : Part) (buffer next bytes : Bytes) → IsInside s p → s.seg_size ≤ length buffer → p.end + length bytes ≤ s.seg_size
-      → slice_range next p.from (p.end + length bytes) ≡ slice_range buffer p.from p.end ++ bytes
-      → span_of (record { segment = p.segment; from = p.from; end = p.end + length bytes }) next ≡ open_after s (span_of p buffer) (bytes ∷ [])
-  open-part p buffer next bytes is room fits h =
-      let end = end_of_part p buffer is room in
-      let made : Bytes → Span = λ bs. record { segment = p.segment; offset = p.from; bytes = bs } in
-      ap made h ∙ sym (open-here (span_of p buffer) bytes (omega (arith, end, fits)))
-
-  -- so it is what the frame leaves that doesn't fit in
-  pub left-whole : (p : Part) (buffer padded bytes : Bytes) → IsInside s p → s.seg_size ≤ length buffer → s.seg_size < p.end + length bytes
-      → slice_range padded p.from s.seg_size ≡ slice_range buffer p.from p.end ++ replicate (s.seg_size - p.end) 0 → left_by s (span_of p buffer) (bytes ∷ []) ≡ span_of (whole_of p) padded ∷ []
-  left-whole p buffer padded bytes is room over h =
-      let end = end_of_part p buffer is room in
-      left-there (span_of p buffer) bytes (omega (arith, end, over))
-      ∙ ap (λ (r : Span). r ∷ []) (whole-filled p buffer padded is room h)
+  -- what a frame leaves that doesn't fit in: a segment with zeros to its end
+  pub left-whole : (p : Part) (bytes padded frame : Bytes) (held : ℕ) → held ≡ length bytes → s.seg_size < p.from + held + length frame → padded ≡ bytes ++ replicate (s.seg_size - p.from - held) 0
+      → left_by s (span_of p bytes) (frame ∷ []) ≡ span_of p padded ∷ []
+  left-whole p bytes padded frame held long over h =
+      let rest : s.seg_size - (p.from + length bytes) ≡ s.seg_size - p.from - held = omega (arith, long) in
+      left-there (span_of p bytes) frame (omega (arith, long, over))
+      ∙ ap (λ (n : ℕ). span_of p (bytes ++ replicate n 0) ∷ []) rest
+      ∙ ap (λ (bs : Bytes). span_of p bs ∷ []) (sym h)
 
   -- and it begins the next one
-  pub open-whole : (p : Part) (buffer empty headed next header bytes : Bytes) → IsInside s p → s.seg_size ≤ length buffer → s.seg_size < p.end + length bytes
-      → header ≡ segment_header (p.segment + 1) → slice_range headed 0 16 ≡ slice_range empty 0 0 ++ header → slice_range next 0 (16 + length bytes) ≡ slice_range headed 0 16 ++ bytes
-      → span_of (record { segment = p.segment + 1; from = 0; end = 16 + length bytes }) next ≡ open_after s (span_of p buffer) (bytes ∷ [])
-  open-whole p buffer empty headed next header bytes is room over h first second =
-      let end = end_of_part p buffer is room in
-      let made : ℕ → Bytes → Span = λ n bs. record { segment = n; offset = 0; bytes = bs } in
-      let all : slice_range next 0 (16 + length bytes) ≡ segment_header (p.segment + 1) ++ bytes = second ∙ ap (λ (bs : Bytes). bs ++ bytes) (first ∙ h) in
-      ap (made (p.segment + 1)) all
-      ∙ ap (λ (n : ℕ). made n (segment_header n ++ bytes)) (add-one p.segment)
-      ∙ sym (open-there (span_of p buffer) bytes (omega (arith, end, over)))
+  pub next-begun : (next : Part) (n : ℕ) (headed all frame : Bytes) → span_of next headed ≡ begun n [] → all ≡ headed ++ frame → span_of next all ≡ begun n frame
+  next-begun next n headed all frame first h = ap (span_of next) h ∙ ap (λ (r : Span). longer r frame) first
+
+  pub open-whole : (p next : Part) (bytes all frame : Bytes) → s.seg_size < p.from + length bytes + length frame → span_of next all ≡ begun (p.segment + 1) frame
+      → span_of next all ≡ open_after s (span_of p bytes) (frame ∷ [])
+  open-whole p next bytes all frame over first =
+      first
+      ∙ ap (λ (n : ℕ). begun n frame) (add-one p.segment)
+      ∙ sym (open-there (span_of p bytes) frame over)
+
+  begun-end : (n : ℕ) (bytes : Bytes) → end_of (begun n bytes) ≡ 16 + length bytes
+  begun-end n bytes = omega arith
+
+  pub begun-inside : (r : Span) (n : ℕ) (frame : Bytes) → r ≡ begun n frame → 16 + length frame ≤ s.seg_size → IsInside s r
+  begun-inside r n frame is fits =
+      let end = ap (λ (x : Span). end_of x) is in
+      let size = begun-end n frame in
+      omega (arith, end, size, fits)
 
   -- ---- all collected bytes of a commit
 
   longer-end : (r : Span) (bytes : Bytes) → end_of (longer r bytes) ≡ end_of r + length bytes
   longer-end r bytes = let long = length-append r.bytes bytes in omega (arith, long)
-
-  begun-end : (n : ℕ) (bytes : Bytes) → end_of (begun n bytes) ≡ 16 + length bytes
-  begun-end n bytes = omega arith
 
   abbrev gathered : Span → List Bytes → List Span
   gathered r frames = left_by s r frames ++ open_after s r frames ∷ []
@@ -207,11 +168,14 @@ module _ (s : Settings) where
       let end = text_tail s tail frames text h in
       omega (arith, same, above, one, end)
 
--- the first bytes of a commit, if its segment is new
-pub begun_is : (n at : ℕ) (buffer empty header : Bytes) → at ≤ 0 → header ≡ segment_header n → slice_range buffer 0 16 ≡ slice_range empty 0 0 ++ header
-    → span_of (record { segment = n; from = 0; end = 16 }) buffer ≡ opened n at
-begun_is n zero buffer empty header none h is = ap (λ (bs : Bytes). begun_with n bs) (is ∙ h)
+-- the first bytes of a new segment
+pub begun_is : (n : ℕ) (bytes empty header : Bytes) → empty ≡ [] → header ≡ segment_header n → bytes ≡ empty ++ header → span_of (record { segment = n; from = 0 }) bytes ≡ begun n []
+begun_is n bytes empty header none h is = ap (λ (bs : Bytes). begun_with bs) (is ∙ ap (λ (bs : Bytes). bs ++ header) none ∙ h)
   where
-    begun_with : ℕ → Bytes → Span
-    begun_with m bs = record { segment = m; offset = 0; bytes = bs }
-begun_is n (suc at) buffer empty header none h is = absurd (omega arith)
+    begun_with : Bytes → Span
+    begun_with bs = record { segment = n; offset = 0; bytes = bs }
+
+-- a commit's first span, if its segment is new
+pub opened-new : (n at : ℕ) → at ≤ 0 → begun n [] ≡ opened n at
+opened-new n zero none = refl
+opened-new n (suc at) none = absurd (omega arith)

@@ -28,7 +28,7 @@ next_slot s t text = record { sequence = suc t.sequence; head = t.head; tail = t
 abbrev pub next_tail : Settings → Slot → List Frame → Result ℕ Fault
 next_tail s t text = admitted (next_slot s t text) (is_full_for_flush s t.head (tail_after s t.tail text))
 
--- a planned commit: the images, the tail from which they are written, the slot that commits them, and the size of the buffer
+-- a planned commit: the images, the tail from which they are written, the slot that commits them, and the capacity of the buffer
 pub record CommitPlan : Type 0 where
   pub images : List (List Bytes)
   pub tail : ℕ

@@ -1,5 +1,5 @@
 -- Collecting the bytes of frames, segment by segment.
-use Rattle.std.specs.Prelude.{suc, ◌+◌, ◌≤◌, nat_le, if◌then◌else◌, List, [], ◌∷◌, length, slice_range}
+use Rattle.std.specs.Prelude.{suc, ◌+◌, ◌≤◌, nat_le, if◌then◌else◌, List, [], ◌∷◌, length}
 use Rattle.keys.specs.Bytes.{Bytes}
 use Rattle.keys.specs.declared.settings.Settings.{Settings}
 use Rattle.flush_log.specs.Layout.{Span, end_of, longer, filled, begun}
@@ -21,11 +21,10 @@ open_after s r (bytes ∷ frames) =
     then open_after s (longer r bytes) frames
     else open_after s (begun (suc r.segment) bytes) frames
 
--- the collected bytes of a segment, in a buffer with the segment's bytes at their offsets
+-- the collected bytes of a segment, and their place
 abbrev pub span_of : Part → Bytes → Span
-span_of p buffer = record { segment = p.segment; offset = p.from; bytes = slice_range buffer p.from p.end }
+span_of p bytes = record { segment = p.segment; offset = p.from; bytes = bytes }
 
--- the collected bytes lie within their segment
-pub record IsInside (s : Settings) (p : Part) : Type 0 where
-  pub rising : p.from ≤ p.end
-  pub within : p.end ≤ s.seg_size
+-- the span lies within its segment
+abbrev pub IsInside : Settings → Span → Type 0
+IsInside s r = end_of r ≤ s.seg_size

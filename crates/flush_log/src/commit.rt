@@ -1,6 +1,6 @@
 //! The disk calls of a commit, which writes frames and makes a slot the store's. Their order ensures that a crash
 //! leaves either the old store or the committed one.
-ghost use Rattle.std.specs.Prelude.{◌≡◌, ◌⊎◌, ◌+◌, ◌≤◌, false, IsTrue, length, None, IfOk, OnOk};
+ghost use Rattle.std.specs.Prelude.{◌≡◌, ◌⊎◌, ◌+◌, ◌≤◌, false, IsTrue, length, vec_capacity, None, IfOk, OnOk};
 ghost use Rattle.keys.specs.Limits.{first_bad_field};
 ghost use Rattle.flush_log.specs.Overlay.{overlay, AgreeAt};
 ghost use Rattle.flush_log.specs.Disk.{IsSynced, Torn, Kept, Leaves, LeavesOnly, CountsFailure, OnlyRead};
@@ -103,11 +103,11 @@ fn write_images<D: Disk>(
     settings: &Settings,
     tail: u64,
     images: &[Image],
-    buffer: &mut [u8],
+    buffer: &mut Vec<u8>,
 ) -> Result<(), DiskFault>
     requires checked { first_bad_field settings.now ≡ None }
     requires within { disk_size settings.now ≤ (D.view disk.old).size }
-    requires buffer { settings.now.seg_size ≤ length buffer.old }
+    requires buffer { settings.now.seg_size ≤ vec_capacity buffer.old }
     requires fits { FitSegments settings.now (frames_in images.now) }
     requires room { HaveRoomAfter settings.now tail images.now }
     ensures kept { Kept (D.view disk.old) (D.view disk.new) }
@@ -135,11 +135,11 @@ fn write_hidden<D: Disk>(
     images: &[Image],
     sequence: u64,
     is_open: bool,
-    buffer: &mut [u8],
+    buffer: &mut Vec<u8>,
 ) -> Result<(), DiskFault>
     requires checked { first_bad_field settings.now ≡ None }
     requires within { disk_size settings.now ≤ (D.view disk.old).size }
-    requires buffer { settings.now.seg_size ≤ length buffer.old }
+    requires buffer { settings.now.seg_size ≤ vec_capacity buffer.old }
     requires fits { FitSegments settings.now (frames_in images.now) }
     requires room { HaveRoomAfter settings.now tail images.now }
     ensures kept { Kept (D.view disk.old) (D.view disk.new) }
@@ -165,7 +165,8 @@ fn write_hidden<D: Disk>(
 
 /// Writes frames after the tail of a log, and then makes a slot the store's: closes the slot's gate if it is open,
 /// writes and syncs the frames, writes and syncs the slot's other bytes, and opens its gate. `is_open` is whether the
-/// gate is open; `buffer` collects the bytes of a segment. After a failed call no further call is made.
+/// gate is open; `buffer` collects the bytes of a segment, and has capacity for them. After a failed call no further
+/// call is made.
 ///
 /// Flushes, upgrades and cleans use this function. A clean may have no frames: then only the slot is written.
 ///
@@ -178,11 +179,11 @@ pub fn write_flush<D: Disk>(
     images: &[Image],
     slot: &Slot,
     is_open: bool,
-    buffer: &mut [u8],
+    buffer: &mut Vec<u8>,
 ) -> Result<(), DiskFault>
     requires checked { first_bad_field settings.now ≡ None }
     requires within { disk_size settings.now ≤ (D.view disk.old).size }
-    requires buffer { settings.now.seg_size ≤ length buffer.old }
+    requires buffer { settings.now.seg_size ≤ vec_capacity buffer.old }
     requires fits { FitSegments settings.now (frames_in images.now) }
     requires room { HaveRoomAfter settings.now tail images.now }
     ensures kept { Kept (D.view disk.old) (D.view disk.new) }

@@ -1,5 +1,5 @@
 //! A commit as one value: first planned, then written.
-ghost use Rattle.std.specs.Prelude.{◌≡◌, ◌⊎◌, ◌*◌, ◌<◌, ◌≤◌, List, None, Err, IsTrue, IfOk, OnOk, MatchResult, length};
+ghost use Rattle.std.specs.Prelude.{◌≡◌, ◌⊎◌, ◌*◌, ◌<◌, ◌≤◌, List, None, Err, IsTrue, OnOk, MatchResult};
 ghost use Rattle.keys.specs.Limits.{first_bad_field};
 ghost use Rattle.keys.specs.declared.fault.Fault.TheVariants.{NoMemory};
 ghost use Rattle.frame_codec.specs.Frame.{Frame};
@@ -15,11 +15,11 @@ use crate::image::Image;
 use crate::layout::tail_of_commit;
 use crate::slot::{LogEnds, Slot};
 use keys::{Fault, Settings};
-use std::alloc::{AllocError, Global};
+use std::alloc::Global;
 use std::marker::Model;
 
 /// A planned commit: the page frames to write, the tail after which they are written, the slot that commits them, and a
-/// buffer for the bytes of a segment. Flushes, upgrades and cleans make one.
+/// buffer with room for the bytes of a segment. Flushes, upgrades and cleans make one.
 #[derive(Drop)]
 pub struct Commit {
     images: Vec<Image>,
@@ -29,7 +29,7 @@ pub struct Commit {
 }
 
 impl Model for Commit {
-    ghost use Rattle.std.specs.Prelude.{length};
+    ghost use Rattle.std.specs.Prelude.{vec_capacity};
     ghost use Rattle.flush_log.specs.CommitPlan.{CommitPlan};
 
     ghost Value = { CommitPlan };
@@ -38,21 +38,8 @@ impl Model for Commit {
       images = m.images.items;
       tail = m.tail;
       slot = m.slot;
-      room = length m.buffer.items;
+      room = vec_capacity m.buffer;
     } };
-}
-
-// `len` zeros. Copies blocks, because pushing the zeros one by one takes many times as long.
-fn zeros(alloc: Global, len: usize) -> Result<Vec<u8>, AllocError>
-    ensures { IfOk result (λ zeros. length zeros.items ≡ len) }
-{
-    let block = [0; 1024];
-    let mut zeros = Vec::with_capacity(alloc, len)?;
-    while zeros.len() < len {
-        let more = block.len().min(len - zeros.len());
-        zeros.extend_from_slice(&block[..more])?;
-    }
-    Ok(zeros)
 }
 
 impl Commit {
@@ -79,7 +66,7 @@ impl Commit {
             (λ commit. IsPlanned settings.now slot.now text commit)
             (λ fault. (fault ≡ NoMemory) ⊎ (next_tail settings.now slot.now text ≡ Err fault)) }
     {
-        let buffer = zeros(alloc, settings.seg_size as usize)?;
+        let buffer = Vec::with_capacity(alloc, settings.seg_size as usize)?;
         let log = slot.ends;
         let sequence = log.sequence + 1;
         let tail = tail_of_commit(settings, sequence, log.head, log.tail, &images)?;

@@ -47,15 +47,15 @@ loop-at-init g c =
       inside = c.requires.inside;
       buffer = c.requires.buffer;
       failed = refl;
-      going = going-starts c.args.settings.now (span_of c.args.part c.args.buffer.now) c.args.image.now (disk.view c.args.disk.now) (g.met.D.Disk.lawful c.args.disk.now) c.requires.fits c.requires.room;
+      going = going-starts c.args.settings.now (span_of c.args.part c.args.buffer.now.items) c.args.image.now (disk.view c.args.disk.now) (g.met.D.Disk.lawful c.args.disk.now) c.requires.fits c.requires.room;
     }
 
 pub put_frame-requires-clause-room : goal.put_frame-requires-clause-room
 put_frame-requires-clause-room g c =
     let s = c.args.settings.now in
     let disk = g.D.Disk in
-    let start = span_of c.args.part c.args.buffer.now in
-    let r = span_of c.loop-at.gathered c.loop-at.buffer in
+    let start = span_of c.args.part c.args.buffer.now.items in
+    let r = span_of c.loop-at.gathered c.loop-at.buffer.items in
     let next = front c.args.image.now c.loop-at.at c.frame.result.now c.frame.ensures in
     let going = subst (Going s start c.args.image.now (disk.view c.args.disk.now) (disk.view c.loop-at.disk) r) next c.loop-at.invariant.going in
     going-room s start c.args.image.now (disk.view c.args.disk.now) (disk.view c.loop-at.disk) r (c.frame.result.now ∷ []) (drop (c.loop-at.at + 1) c.args.image.now) going
@@ -64,8 +64,8 @@ pub returns-in_err-gathered-clause-crash : goal.returns-in_err-gathered-clause-c
 returns-in_err-gathered-clause-crash g c =
     let s = c.args.settings.now in
     let disk = g.D.Disk in
-    let start = span_of c.args.part c.args.buffer.now in
-    let r = span_of c.loop-at.gathered c.loop-at.buffer in
+    let start = span_of c.args.part c.args.buffer.now.items in
+    let r = span_of c.loop-at.gathered c.loop-at.buffer.items in
     let next = front c.args.image.now c.loop-at.at c.frame.result.now c.frame.ensures in
     let going = subst (Going s start c.args.image.now (disk.view c.args.disk.now) (disk.view c.loop-at.disk) r) next c.loop-at.invariant.going in
     going-leaves s start c.args.image.now (disk.view c.args.disk.now) (disk.view c.loop-at.disk) (disk.view c.put_frame.new.disk) r (c.frame.result.now ∷ []) (drop (c.loop-at.at + 1) c.args.image.now)
@@ -75,18 +75,18 @@ pub loop-at-preserved : goal.loop-at-preserved
 loop-at-preserved g c =
     let s = c.args.settings.now in
     let disk = g.D.Disk in
-    let start = span_of c.args.part c.args.buffer.now in
-    let r = span_of c.loop-at.gathered c.loop-at.buffer in
+    let start = span_of c.args.part c.args.buffer.now.items in
+    let r = span_of c.loop-at.gathered c.loop-at.buffer.items in
     let next = front c.args.image.now c.loop-at.at c.frame.result.now c.frame.ensures in
     let going = subst (Going s start c.args.image.now (disk.view c.args.disk.now) (disk.view c.loop-at.disk) r) next c.loop-at.invariant.going in
     let put = c.in_ok-gathered.ensures in
     record {
       inside = put.inside;
-      buffer = (let same = c.put_frame.auto.buffer in let room = c.loop-at.invariant.buffer in omega arith);
+      buffer = (let same = c.in_ok-gathered.ensures.buffer in let room = c.loop-at.invariant.buffer in omega arith);
       failed = put.failed ∙ c.loop-at.invariant.failed;
       going =
           going-on s start c.args.image.now (disk.view c.args.disk.now) (disk.view c.loop-at.disk) (disk.view c.put_frame.new.disk) r (c.frame.result.now ∷ []) (drop (c.loop-at.at + 1) c.args.image.now)
-          (g.met.D.Disk.lawful c.loop-at.disk) going c.put_frame.ensures.kept c.put_frame.ensures.crash (span_of c.in_ok-gathered.gathered c.put_frame.new.buffer) put.same put.written;
+          (g.met.D.Disk.lawful c.loop-at.disk) going c.put_frame.ensures.kept c.put_frame.ensures.crash (span_of c.in_ok-gathered.gathered c.put_frame.new.buffer.items) put.same put.written;
     }
 
 pub returns-clause-inside : goal.returns-clause-inside
@@ -95,9 +95,9 @@ returns-clause-inside g c = c.loop-at.invariant.inside
 pub returns-clause-same : goal.returns-clause-same
 returns-clause-same g c =
     let s = c.args.settings.now in
-    let r = span_of c.loop-at.gathered c.loop-at.buffer in
+    let r = span_of c.loop-at.gathered c.loop-at.buffer.items in
     let none = drop_all c.loop-at.at c.args.image.now (omega arith) in
-    subst (λ (frames : List Bytes). open_after s r frames ≡ open_after s (span_of c.args.part c.args.buffer.now) c.args.image.now) none c.loop-at.invariant.going.same
+    subst (λ (frames : List Bytes). open_after s r frames ≡ open_after s (span_of c.args.part c.args.buffer.now.items) c.args.image.now) none c.loop-at.invariant.going.same
 
 pub returns-clause-kept : goal.returns-clause-kept
 returns-clause-kept g c = c.loop-at.invariant.going.kept
@@ -109,8 +109,8 @@ pub returns-clause-written : goal.returns-clause-written
 returns-clause-written g c honest =
     let s = c.args.settings.now in
     let view = g.D.Disk.view in
-    let r = span_of c.loop-at.gathered c.loop-at.buffer in
-    let left = left_by s (span_of c.args.part c.args.buffer.now) c.args.image.now in
+    let r = span_of c.loop-at.gathered c.loop-at.buffer.items in
+    let left = left_by s (span_of c.args.part c.args.buffer.now.items) c.args.image.now in
     let none = drop_all c.loop-at.at c.args.image.now (omega arith) in
     subst (λ (frames : List Bytes). with_spans s (view c.loop-at.disk).seen (left_by s r frames) ≡ with_spans s (view c.args.disk.now).seen left) none (c.loop-at.invariant.going.written honest)
 

@@ -60,7 +60,7 @@ loop-image-init g c =
     let begins = going-starts s start all (disk.view c.args.disk.now) (g.met.D.Disk.lawful c.args.disk.now) c.requires.fits (omega (arith, upto, low)) in
     record {
       inside = c.begin_part-part.ensures.inside;
-      buffer = (let same = c.begin_part-part.auto.buffer in let room = c.requires.buffer in omega arith);
+      buffer = (let same = c.begin_part-part.ensures.buffer in let room = c.requires.buffer in omega arith);
       failed = refl;
       going = subst (λ (r : Span). Going s start all (disk.view c.args.disk.now) (disk.view c.args.disk.now) r all) (sym c.begin_part-part.ensures.same) begins;
     }
@@ -78,7 +78,7 @@ put_image-requires-clause-room g c =
     let disk = g.D.Disk in
     let start : Span = opened (c.args.tail / s.seg_size) (c.args.tail % s.seg_size) in
     let all = frames_in c.args.images.now in
-    let r = span_of c.loop-image.part c.loop-image.buffer in
+    let r = span_of c.loop-image.part c.loop-image.buffer.items in
     let next = front_item c.args.images.now c.loop-image.image-index c.image-item.result (omega arith) c.image-item.is in
     let going = subst (λ (images : List (List Bytes)). Going s start all (disk.view c.args.disk.now) (disk.view c.loop-image.disk) r (frames_in images)) next c.loop-image.invariant.going in
     going-room s start all (disk.view c.args.disk.now) (disk.view c.loop-image.disk) r c.image-item.result (frames_in (drop (c.loop-image.image-index + 1) c.args.images.now)) going
@@ -90,7 +90,7 @@ returns-in_err-part-clause-crash g c text of some honest =
     let start : Span = opened (c.args.tail / s.seg_size) (c.args.tail % s.seg_size) in
     let all = frames_in c.args.images.now in
     let old = disk.view c.args.disk.now in
-    let r = span_of c.loop-image.part c.loop-image.buffer in
+    let r = span_of c.loop-image.part c.loop-image.buffer.items in
     let next = front_item c.args.images.now c.loop-image.image-index c.image-item.result (omega arith) c.image-item.is in
     let going = subst (λ (images : List (List Bytes)). Going s start all (disk.view c.args.disk.now) (disk.view c.loop-image.disk) r (frames_in images)) next c.loop-image.invariant.going in
     subst (λ (rs : List Span). Leaves (disk.view c.args.disk.now) (disk.view c.put_image.new.disk) (AgreeAt (IsBesideSpans s rs))) (text-spans s c.args.tail all text of some)
@@ -104,17 +104,17 @@ loop-image-preserved g c =
     let disk = g.D.Disk in
     let start : Span = opened (c.args.tail / s.seg_size) (c.args.tail % s.seg_size) in
     let all = frames_in c.args.images.now in
-    let r = span_of c.loop-image.part c.loop-image.buffer in
+    let r = span_of c.loop-image.part c.loop-image.buffer.items in
     let next = front_item c.args.images.now c.loop-image.image-index c.image-item.result (omega arith) c.image-item.is in
     let going = subst (λ (images : List (List Bytes)). Going s start all (disk.view c.args.disk.now) (disk.view c.loop-image.disk) r (frames_in images)) next c.loop-image.invariant.going in
     let put = c.in_ok-part.ensures in
     record {
       inside = put.inside;
-      buffer = (let same = c.put_image.auto.buffer in let room = c.loop-image.invariant.buffer in omega arith);
+      buffer = (let same = c.in_ok-part.ensures.buffer in let room = c.loop-image.invariant.buffer in omega arith);
       failed = put.failed ∙ c.loop-image.invariant.failed;
       going =
           going-on s start all (disk.view c.args.disk.now) (disk.view c.loop-image.disk) (disk.view c.put_image.new.disk) r c.image-item.result (frames_in (drop (c.loop-image.image-index + 1) c.args.images.now))
-          (g.met.D.Disk.lawful c.loop-image.disk) going c.put_image.ensures.kept c.put_image.ensures.crash (span_of c.in_ok-part.part c.put_image.new.buffer) put.same put.written;
+          (g.met.D.Disk.lawful c.loop-image.disk) going c.put_image.ensures.kept c.put_image.ensures.crash (span_of c.in_ok-part.part c.put_image.new.buffer.items) put.same put.written;
     }
 
 pub returns-clause-written : goal.returns-clause-written
@@ -123,9 +123,11 @@ returns-clause-written g c text of some honest =
     let disk = g.D.Disk in
     let start : Span = opened (c.args.tail / s.seg_size) (c.args.tail % s.seg_size) in
     let all = frames_in c.args.images.now in
-    let r = span_of c.loop-image.part c.loop-image.buffer in
+    let r = span_of c.loop-image.part c.deref.result.now in
     let none = at_drop_all frames_in c.args.images.now c.loop-image.image-index c.loop-image-test.false in
-    let going = subst (Going s start all (disk.view c.args.disk.now) (disk.view c.loop-image.disk) r) none c.loop-image.invariant.going in
+    let gathered = subst (λ (bs : Bytes). Going s start all (disk.view c.args.disk.now) (disk.view c.loop-image.disk) (span_of c.loop-image.part bs) (frames_in (drop c.loop-image.image-index c.args.images.now)))
+    (sym c.deref.ensures.value) c.loop-image.invariant.going in
+    let going = subst (Going s start all (disk.view c.args.disk.now) (disk.view c.loop-image.disk) r) none gathered in
     on_ok c.write_part.result
     (λ wrote.
     ends-written s start all (disk.view c.args.disk.now) (disk.view c.loop-image.disk) (disk.view c.write_part.new.disk) r (g.met.D.Disk.lawful c.loop-image.disk) going honest (λ still. wrote)
@@ -138,8 +140,10 @@ returns-clause-crash g c text of some honest =
     let disk = g.D.Disk in
     let start : Span = opened (c.args.tail / s.seg_size) (c.args.tail % s.seg_size) in
     let all = frames_in c.args.images.now in
-    let r = span_of c.loop-image.part c.loop-image.buffer in
+    let r = span_of c.loop-image.part c.deref.result.now in
     let none = at_drop_all frames_in c.args.images.now c.loop-image.image-index c.loop-image-test.false in
-    let going = subst (Going s start all (disk.view c.args.disk.now) (disk.view c.loop-image.disk) r) none c.loop-image.invariant.going in
+    let gathered = subst (λ (bs : Bytes). Going s start all (disk.view c.args.disk.now) (disk.view c.loop-image.disk) (span_of c.loop-image.part bs) (frames_in (drop c.loop-image.image-index c.args.images.now)))
+    (sym c.deref.ensures.value) c.loop-image.invariant.going in
+    let going = subst (Going s start all (disk.view c.args.disk.now) (disk.view c.loop-image.disk) r) none gathered in
     subst (λ (rs : List Span). Leaves (disk.view c.args.disk.now) (disk.view c.write_part.new.disk) (AgreeAt (IsBesideSpans s rs))) (text-spans s c.args.tail all text of some)
     (ends-leaves s start all (disk.view c.args.disk.now) (disk.view c.loop-image.disk) (disk.view c.write_part.new.disk) r (g.met.D.Disk.lawful c.loop-image.disk) going honest c.write_part.ensures.crash)

@@ -1,4 +1,4 @@
-use Rattle.std.proofs.Common.{◌≡◌, ◌≤◌, ◌/◌, ◌%◌, drop, length}
+use Rattle.std.proofs.Common.{◌≡◌, ◌≤◌, ◌/◌, ◌%◌, drop, vec_capacity}
 use Rattle.flush_log.specs.Gathering.{span_of, IsInside}
 use Rattle.flush_log.specs.Images.{frames_in}
 use Rattle.flush_log.specs.Layout.{opened}
@@ -10,8 +10,8 @@ abbrev pub invariant-loop-image : goal.invariant-loop-image
 invariant-loop-image g l =
     let disk = g.D.Disk in
     record {
-      inside : IsInside l.settings l.part;
-      buffer : l.settings.seg_size ≤ length l.buffer;
+      inside : IsInside l.settings (span_of l.part l.buffer.items);
+      buffer : l.settings.seg_size ≤ vec_capacity l.buffer;
       failed : disk.failed l.disk ≡ disk.failed l.fn.disk;
-      going : Going l.settings (opened (l.tail / l.settings.seg_size) (l.tail % l.settings.seg_size)) (frames_in l.images) (disk.view l.fn.disk) (disk.view l.disk) (span_of l.part l.buffer) (frames_in (drop l.image-index l.images));
+      going : Going l.settings (opened (l.tail / l.settings.seg_size) (l.tail % l.settings.seg_size)) (frames_in l.images) (disk.view l.fn.disk) (disk.view l.disk) (span_of l.part l.buffer.items) (frames_in (drop l.image-index l.images));
     }

@@ -1,4 +1,4 @@
-use Rattle.std.proofs.Common.{◌≡◌, ℕ, ◌+◌, slice_range, OnOk, ap, subst}
+use Rattle.std.proofs.Common.{◌≡◌, ℕ, ◌+◌, OnOk, ap, subst}
 use Rattle.flush_log.specs.Gathering.{span_of}
 use Rattle.flush_log.specs.Overlay.{overlay}
 use Rattle.flush_log.proofs.GatherRuns.{leaves-span}
@@ -14,12 +14,12 @@ pub returns-clause-written : goal.returns-clause-written
 returns-clause-written g c honest =
     let view = g.D.Disk.view in
     let part = c.args.part in
-    subst (λ (n : ℕ). OnOk c.write_at.result ((view c.write_at.new.self).seen ≡ overlay (view c.args.disk.now).seen (n + part.from) (slice_range c.args.buffer.now part.from part.end)))
+    subst (λ (n : ℕ). OnOk c.write_at.result ((view c.write_at.new.self).seen ≡ overlay (view c.args.disk.now).seen (n + part.from) c.args.bytes.now))
     c.place_of_segment.ensures (c.write_at.ensures.written honest)
 
 pub returns-clause-crash : goal.returns-clause-crash
 returns-clause-crash g c honest =
     let view = g.D.Disk.view in
     let part = c.args.part in
-    leaves-span c.args.settings.now (span_of part c.args.buffer.now) (c.place_of_segment.result + part.from) (view c.args.disk.now) (view c.write_at.new.self)
+    leaves-span c.args.settings.now (span_of part c.args.bytes.now) (c.place_of_segment.result + part.from) (view c.args.disk.now) (view c.write_at.new.self)
     (ap (λ (n : ℕ). n + part.from) c.place_of_segment.ensures) (c.write_at.ensures.crash honest)
