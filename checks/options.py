@@ -449,6 +449,22 @@ def keep_queue(programs: Programs, value: int, most: int, seg_size: int, factor:
     return Outcome(None if is_right else ran.describe(), measured=f"{segments} segments")
 
 
+SMALL_COMMITS = b"".join(b"put k%03d %d\nflush\n" % (number % 500, number) for number in range(5_000))
+SLOWER, LEAST = 2, 0.05  # greatest ratio of the processor times with large and small segments, and seconds that are always allowed
+
+
+def compare_segments(programs: Programs) -> Outcome:
+    """A flush of one put takes no more processor time in a large segment than in a small one: it writes the same bytes."""
+    seconds = []
+    for size, segments in ((16_384, 256), (1_048_576, 4)):
+        ran = [run([programs.store, f"--seg-size={size}", f"--segments={segments}"], SMALL_COMMITS) for _ in range(3)]
+        if any(each.status or each.out.count(b"flushed ") != 5_000 for each in ran):
+            return Outcome(ran[0].describe())
+        seconds.append(min(each.seconds for each in ran))
+    measured = f"{seconds[0]:.3f} s with segments of 16,384 bytes, {seconds[1]:.3f} s with those of 1,048,576"
+    return Outcome(measured if seconds[1] > SLOWER * seconds[0] + LEAST else None, measured=measured)
+
+
 QUEUES = [(8, 100, 32_768), (20, 500, 32_768), (100, 100, 65_536), (100, 500, 32_768), (100, 50, 32_768)]  # bytes of a value, pairs of a batch, seg_size
 
 
@@ -475,5 +491,6 @@ def cases(programs: Programs) -> list[Case]:
         Case("makes room for a queue that has filled its log", bloated_and_full, (programs,)),
         *(Case(f"keeps a queue with {row[0]} bytes a value, {row[1]} pairs a batch", keep_queue, (programs, *row, 14)) for row in QUEUES),
         *(Case(f"keeps a queue in half the log, {row[0]} bytes a value, {row[1]} pairs a batch", keep_queue, (programs, *row, 7)) for row in QUEUES),
+        Case("flushes one put as fast in a large segment", compare_segments, (programs,)),
         *(Case(f"keeps a queue with {kind}", live_for_ever, (programs, kind)) for kind in ("--fan=64 --chain=16", "--fan=16 --chain=4", "--fan=64 --chain=4")),
     ]
