@@ -1,11 +1,12 @@
 """Test cases and their outcomes."""
 
+import traceback
 from collections.abc import Callable
 from dataclasses import dataclass, field
 from pathlib import Path
 from typing import Any
 
-from tools.processes import RunResult, abbreviate
+from tools.processes import TOP, RunResult, abbreviate
 
 SLOW = 4  # factor of time limits, for slow machines
 # A store whose pages and log fill up soon.
@@ -26,6 +27,14 @@ class Outcome:
     measured: str = ""
 
 
+def describe(error: BaseException) -> str:
+    """Returns the kind and the text of an exception, and the last file and line of this repository that it came through."""
+    frames = traceback.extract_tb(error.__traceback__)
+    own = [frame for frame in frames if Path(frame.filename).is_relative_to(TOP)] or frames
+    place = f"{own[-1].filename.removeprefix(f'{TOP}/')}:{own[-1].lineno}: " if own else ""
+    return f"{place}{type(error).__name__}: {error}"
+
+
 @dataclass(frozen=True)
 class Case:
     """A case is sent to another process, so `check` must be a module-level function."""
@@ -37,8 +46,16 @@ class Case:
     def outcome(self) -> Outcome:
         try:
             return self.check(*self.arguments)
-        except Exception as error:
-            return Outcome(f"{type(error).__name__}: {error}")
+        except (Exception, SystemExit) as error:
+            return Outcome(describe(error))
+
+
+def cases_of(list_cases: Callable[..., list[Case]], *arguments: Any) -> list[Case]:
+    """Returns the cases of a part, or a case that fails if they cannot be listed."""
+    try:
+        return list_cases(*arguments)
+    except (Exception, SystemExit) as error:
+        return [Case("the list of the cases", Outcome, (describe(error),))]
 
 
 def differs(result: RunResult, status: int, out: bytes, err: bytes = b"") -> str | None:
