@@ -1,52 +1,65 @@
-"""Packs both programs, their man pages, the Python client and all pages into one archive for machines without the Rattle kit."""
+"""Packs both programs, their man pages, the Python client, all pages and what the pages link to, for machines without the Rattle kit: as an archive,
+or as a Debian package."""
 
+import contextlib
 import hashlib
 import importlib.util
 import io
+import os
 import re
 import subprocess
 import tarfile
 import tempfile
+from collections.abc import Iterator
 from dataclasses import dataclass
 from pathlib import Path
 from types import ModuleType
 
-from tools import building, kit
+from tools import building, debian, kit
+from tools.man_pages import man_page
 from tools.processes import PROGRAM
 
 TOP = building.TOP
 GATE_LOG = TOP / "out/gate.log"
 CLIENT = TOP / "clients/python"
 EXECUTABLE, READABLE = 0o755, 0o644
+LINK = re.compile(r"\]\(([^)\s#]+)[^)\s]*\)")
 
 PROVENANCE = """# Where these programs come from
 
-They were built from commit {commit} of Taukremil with {kit_name}. They need Linux on x86-64, its C library and
-libgcc_s.so.1, which Debian installs with it.
+They were built with {kit_name} from commit {commit}. They need Linux on x86-64, its C library and libgcc_s.so.1, which
+Debian installs with it.
 
 program | SHA-256 | built
 ---|---|---
-`bin/bwsh` | `{store_sum}` | {store_built}
-`bin/bwserve` | `{server_sum}` | without proofs, and so with run-time checks. The contracts of its layers except main are proved; [its page](server/README.md) says what is only tested
+`bwsh` | `{store_sum}` | {store_built}
+`bwserve` | `{server_sum}` | without proofs, and so with run-time checks. The contracts of its layers except main are proved; \
+[its page](server/README.md) says what is only tested
 
 [PROVED](docs/PROVED.md) says what is proved of `bwsh`, and what that rests on. To prove it again, check out the commit on a machine with the kit, and
 run `./check --gate`.
+
+The pages were written for a checkout: where they type `out/bwsh`, type the path of this `bwsh`, and skip `./build` and `./check`.
 """
-PROVED_BY = "by the gate, which proved each function in it. The gate's last lines: {lines}"
+PROVED_BY_GATE = "by the gate, which proved each function in it. The gate's last lines: {lines}"
+PROVED_BY_BUILD = "by `./build --proved`, which proved each function in it"
 UNPROVED = "without proofs, and so with run-time checks"
 
 
 class PackError(Exception):
-    """The archive was not made."""
+    """Nothing was packed."""
 
 
 @dataclass(frozen=True)
 class Packed:
-    """What is packed: `bwsh` and `bwserve`, and whether the gate has proved this `bwsh`."""
+    """The programs `bwsh` and `bwserve` that are packed, and the words that say how this `bwsh` was built."""
 
     store: Path
     server: Path
-    is_proved: bool
+    store_built: str = UNPROVED
+
+    def programs(self) -> dict[str, Path]:
+        return {"bwsh": self.store, "bwserve": self.server}
 
 
 def output_of(*command: str | Path) -> str:
@@ -56,69 +69,68 @@ def output_of(*command: str | Path) -> str:
     return ran.stdout
 
 
-# ---- Man pages.
+# ---- Which programs are packed.
 
 
-def escape(line: str) -> str:
-    """Escapes a line of text, so that troff shows it unchanged."""
-    text = line.replace("\\", "\\e").replace("-", "\\-")
-    return f"\\&{text}" if text[:1] in (".", "'") else text
-
-
-def man_page(name: str, version: str, help_text: str) -> str:
-    """Returns a man page with the text of `--help`, whose headings are lines that end with a colon."""
-    lines = help_text.rstrip().splitlines()
-    page = [f'.TH {name.upper()} 1 "" "Taukremil {version}"', ".SH NAME", f"{name} \\- {escape(lines[0])}"]
-    is_open = False
-    for line in lines[1:]:
-        heading = re.fullmatch(r"([A-Z][^:]*):( .+)?", line)
-        if heading:
-            title = "SYNOPSIS" if heading[1] == "Usage" else heading[1].upper()
-            page += [".fi"] * is_open + [f".SH {title}", ".nf"]
-            page += [escape(heading[2].strip())] if heading[2] else []
-            is_open = True
-        elif is_open or line:
-            page.append(escape(line))
-    return "\n".join([*page, *[".fi"] * is_open, ""])
-
-
-# ---- What the archive says of itself.
-
-
-def commit_of() -> str:
-    changed = " with changes that are not committed" if output_of("git", "status", "--porcelain", "--untracked-files=no").strip() else ""
-    return f"`{output_of('git', 'rev-parse', 'HEAD').strip()}`{changed}"
-
-
-def refuse_if_old(program: Path) -> None:
-    """Fails if a source is younger than the program that the gate has built."""
+def is_younger(program: Path) -> bool:
+    """Returns whether the program is younger than all sources of the crates."""
     built = program.stat().st_mtime
-    younger = [path for part in ("src", "specs", "proofs") for path in TOP.glob(f"crates/*/{part}/**/*") if path.is_file() and path.stat().st_mtime > built]
-    if younger:
-        raise PackError(f"{younger[0].relative_to(TOP)} is younger than {program.relative_to(TOP)}: run ./check --gate first")
+    parts = (path for part in ("src", "specs", "proofs") for path in TOP.glob(f"crates/*/{part}/**/*"))
+    return all(path.stat().st_mtime <= built for path in parts if path.is_file())
 
 
-def gate_lines() -> str:
+def gate_lines() -> str | None:
     """Returns the last lines of a gate that proved everything."""
     lines = GATE_LOG.read_text().splitlines() if GATE_LOG.is_file() else []
     if not lines or not re.fullmatch(r"\d+ passed, 0 failed", lines[-1]):
-        raise PackError(f"{GATE_LOG.relative_to(TOP)} does not end with '0 failed': run ./check --gate first")
+        return None
     return "; ".join(f"`{line.strip()}`" for line in lines[-2:])
 
 
+def find_proved() -> tuple[Path, str] | None:
+    """Returns a `bwsh` that the gate or `./build --proved` has made of the present sources, and the words that say so."""
+    lines = gate_lines()
+    if lines is not None and PROGRAM.is_file() and is_younger(PROGRAM):
+        return PROGRAM, PROVED_BY_GATE.format(lines=lines)
+    if building.is_built("bwsh", is_proved=True):
+        return building.BUILT / "bwsh", PROVED_BY_BUILD
+    return None
+
+
+def choose(store: Path | None, server: Path | None, is_unproved: bool) -> Packed:
+    """Returns what is packed if these programs are named. Builds a program that is missing, except for one that has to be proved."""
+    store_built = UNPROVED
+    if store is None and not is_unproved:
+        proved = find_proved()
+        if proved is None:
+            raise PackError("no proved bwsh of these sources is there: run ./build --proved (over an hour), or ./dist --unproved")
+        store, store_built = proved
+    missing = [name for name, path in (("bwsh", store), ("bwserve", server)) if path is None]
+    building.build_all(missing)
+    packed = Packed(store or building.BUILT / "bwsh", server or building.BUILT / "bwserve", store_built)
+    for path in packed.programs().values():
+        if not os.access(path, os.X_OK) or path.is_dir():
+            raise PackError(f"{path} is not a program")
+    return packed
+
+
+# ---- What is packed.
+
+
 def provenance(packed: Packed) -> str:
-    if packed.is_proved:
-        refuse_if_old(packed.store)
+    changed = ", with changes that are not committed" if output_of("git", "status", "--porcelain", "--untracked-files=no").strip() else ""
     return PROVENANCE.format(
-        commit=commit_of(),
+        commit=f"`{output_of('git', 'rev-parse', 'HEAD').strip()}` of Taukremil{changed}",
         kit_name=f"`{output_of(kit.RT, 'version').splitlines()[0]}`",
         store_sum=hashlib.sha256(packed.store.read_bytes()).hexdigest(),
         server_sum=hashlib.sha256(packed.server.read_bytes()).hexdigest(),
-        store_built=PROVED_BY.format(lines=gate_lines()) if packed.is_proved else UNPROVED,
+        store_built=packed.store_built,
     )
 
 
-# ---- The archive.
+def commit_time() -> int:
+    """Returns the time that all packed files have, so that the same commit and programs make the same bytes."""
+    return int(output_of("git", "log", "-1", "--format=%ct"))
 
 
 def client_builder() -> ModuleType:
@@ -135,31 +147,81 @@ def wheel() -> tuple[str, bytes]:
         return name, (Path(folder) / name).read_bytes()
 
 
-def files_of(packed: Packed, version: str) -> dict[str, tuple[bytes, int]]:
+def linked_files(page: Path) -> Iterator[Path]:
+    """Yields the files of this repository that a page links to."""
+    for target in LINK.findall(page.read_text()):
+        path = (page.parent / target).resolve()
+        if "://" not in target and path.is_file() and path.is_relative_to(TOP):
+            yield path
+
+
+def page_files() -> set[Path]:
+    """Returns all pages, and what they link to."""
+    pages = {TOP / name for name in output_of("git", "ls-files", "*.md").splitlines()}
+    return pages | {path for page in pages for path in linked_files(page)}
+
+
+def files_of(packed: Packed, version: str) -> debian.Files:
     """Returns the content and the mode of each file."""
-    files = {f"bin/{name}": (program.read_bytes(), EXECUTABLE) for name, program in (("bwsh", packed.store), ("bwserve", packed.server))}
-    for name, program in (("bwsh", packed.store), ("bwserve", packed.server)):
+    files: debian.Files = {}
+    for name, program in packed.programs().items():
+        files[f"bin/{name}"] = program.read_bytes(), EXECUTABLE
         files[f"share/man/man1/{name}.1"] = man_page(name, version, output_of(program, "--help")).encode(), READABLE
     name, content = wheel()
     files[name] = content, READABLE
-    for page in output_of("git", "ls-files", "*.md").splitlines():
-        files[page] = (TOP / page).read_bytes(), READABLE
+    for path in page_files():
+        mode = EXECUTABLE if os.access(path, os.X_OK) else READABLE
+        files[str(path.relative_to(TOP))] = path.read_bytes(), mode
     files["PROVENANCE.md"] = provenance(packed).encode(), READABLE
     return files
 
 
+# ---- The archive and the package.
+
+
+@contextlib.contextmanager
+def replacing(path: Path) -> Iterator[Path]:
+    """Yields a file beside this path that takes its place at the end. After an exception, what was at the path stays."""
+    handle, name = tempfile.mkstemp(dir=path.parent, prefix=f".{path.name}.")
+    os.close(handle)
+    made = Path(name)
+    try:
+        yield made
+        made.chmod(READABLE)
+        made.replace(path)
+    finally:
+        made.unlink(missing_ok=True)
+
+
+def version_of(store: Path) -> str:
+    words = output_of(store, "--version").split()
+    if len(words) < 2 or not re.fullmatch(r"\d+(\.\d+)*", words[1]):
+        raise PackError(f"{store} --version does not print a version")
+    return words[1]
+
+
 def pack(packed: Packed, folder: Path) -> Path:
-    """Writes the archive into this folder. The same files make the same bytes."""
-    version = output_of(packed.store, "--version").split()[-1]
+    """Writes the archive into this folder."""
+    version, time = version_of(packed.store), commit_time()
     name = f"taukremil-{version}"
+    files = files_of(packed, version)
     archive = folder / f"{name}-linux-x86_64.tar.xz"
-    with tarfile.open(archive, "w:xz") as tar:
-        for path, (content, mode) in sorted(files_of(packed, version).items()):
+    with replacing(archive) as made, tarfile.open(made, "w:xz") as tar:
+        for path, (content, mode) in sorted(files.items()):
             entry = tarfile.TarInfo(f"{name}/{path}")
-            entry.size, entry.mode = len(content), mode
+            entry.size, entry.mode, entry.mtime = len(content), mode, time
             tar.addfile(entry, io.BytesIO(content))
     return archive
 
 
-def is_of_gate(program: Path) -> bool:
-    return program.resolve() == PROGRAM.resolve()
+def pack_debian(packed: Packed, folder: Path) -> Path:
+    """Writes the Debian package into this folder."""
+    version = version_of(packed.store)
+    package = folder / f"taukremil_{version}_amd64.deb"
+    files = files_of(packed, version)
+    with replacing(package) as made:
+        try:
+            debian.build(files, version, commit_time(), made)
+        except (OSError, subprocess.CalledProcessError) as error:
+            raise PackError(f"dpkg-deb failed: {error}") from error
+    return package

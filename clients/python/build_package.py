@@ -47,7 +47,9 @@ def _write_wheel(folder: str, files: dict[str, bytes]) -> str:
     name = f"{release}-py3-none-any.whl"
     with zipfile.ZipFile(Path(folder) / name, "w", zipfile.ZIP_DEFLATED) as wheel:
         for path, content in {**files, f"{info}/RECORD": record.encode()}.items():
-            wheel.writestr(path, content)
+            entry = zipfile.ZipInfo(path)  # without a time, so that the same files make the same bytes
+            entry.external_attr = 0o644 << 16
+            wheel.writestr(entry, content, zipfile.ZIP_DEFLATED)
     return name
 
 
