@@ -12,14 +12,13 @@ from pathlib import Path
 
 sys.path.insert(0, str(Path(__file__).resolve().parent.parent))
 
-from bench import plot, stores
+from bench import stores
 from bench.stores import AT_END, Puts, StoreProgram, StoreText, least
 from bench.tables import print_table
 from bench.timing import run_phases
 from bench.workload import LONG, Phase, Workload, gets, write_phases
 from tools.processes import PROGRAM, Command, exit_if_missing
 
-HERE = Path(__file__).resolve().parent
 SETTINGS = {"fan 32, chain 16": (32, 16), "defaults": (16, 4)}  # fan and chain
 PHASES = {"load": "load", "gets": "gets", "half": "half gets, half puts", "deletes": "deletes of all keys"}
 WORKERS = [1, 2, 3, 4, 64]
@@ -114,23 +113,11 @@ def print_grains(clock: Clock, crews: Sequence[Crew]) -> None:
         print_table([f"{kind}, {MANY} workers, grain", *(f"{grain:,}" for _, grain in crews)], rows)
 
 
-def draw(clock: Clock, crews: Sequence[Crew], path: Path) -> None:
-    few = [crew for crew in crews if crew[0] <= 4]
-    panels: dict[str, dict[str, list[tuple[int, float]]]] = {}
-    for kind in SETTINGS:
-        panels[kind] = {}
-        for phase, name in [*PHASES.items(), ("recovery", "recovery")]:
-            seconds = clock.row(kind, few, phase)
-            panels[kind][name] = [(workers, seconds[0] / each) for (workers, _), each in zip(few, seconds)]
-    path.write_text(plot.panels(panels))
-
-
 def main() -> None:
     parser = argparse.ArgumentParser(description=__doc__)
     parser.add_argument("calls", help="path of the program built from crew/main.rt.in")
     parser.add_argument("--repeats", type=int, default=2, help="runs of each measurement; the least time is reported")
     parser.add_argument("--program", type=Path, default=PROGRAM)
-    parser.add_argument("--plot", type=Path, default=HERE / "crew.svg", help="file for the plot (default: crew.svg)")
     options = parser.parse_args()
     exit_if_missing(options.program)
     work, clock = Workload(1_000_000), Clock()
@@ -147,7 +134,6 @@ def main() -> None:
     print_workers(clock, PHASES | {"recovery": "recovery"}, by_workers)
     print_workers(clock, {phase.name: phase.name for phase in phases[1:]}, few)
     print_grains(clock, by_grain)
-    draw(clock, by_workers, options.plot)
 
 
 if __name__ == "__main__":

@@ -15,9 +15,10 @@ from pathlib import Path
 TOP = Path(__file__).resolve().parent.parent
 sys.path[:0] = [str(TOP), str(TOP / "clients/python")]
 
-from bench.plot import full_logs
+from bench import plot
 from bench.tables import print_table
 from taukremil import Put, Refused, Store
+from tools import drawing
 from tools.processes import PROGRAM, exit_if_missing
 
 SEGMENT = 1_048_576
@@ -143,9 +144,13 @@ def main() -> None:
     parser.add_argument("--segments", type=int, nargs="*", default=[20, 32, 64, 160, 512], metavar="MIB")
     parser.add_argument("--live", type=int, nargs="*", default=[11, 64, 256], metavar="MIB", help="logs that are filled with live data")
     parser.add_argument("--svg", type=Path, help="draw the batches in full logs into this file")
+    parser.add_argument("--names", nargs="*", help="what the figure calls the programs; default: their files' names")
     options = parser.parse_args()
+    if options.svg:
+        drawing.exit_if_missing()
     curves = {}
-    for program in options.program or [PROGRAM]:
+    programs = options.program or [PROGRAM]
+    for program, shown in zip(programs, options.names or [program.name for program in programs], strict=True):
         exit_if_missing(program)
         with tempfile.TemporaryDirectory() as folder:
             found = measure_all(program.resolve(), options.segments, options.pairs, Path(folder)) if options.segments else []
@@ -154,9 +159,9 @@ def main() -> None:
             print_table(HEAD, (row(options.pairs, measured) for measured in found))
         if refusals:
             print_table(REFUSAL_HEAD, refusals)
-        curves[program.name] = [(measured.segments, measured.full * 1_000) for measured in found]
+        curves[shown] = [(measured.segments, measured.full * 1_000) for measured in found]
     if options.svg:
-        options.svg.write_text(full_logs(curves))
+        plot.full_logs(curves, options.svg)
 
 
 if __name__ == "__main__":

@@ -22,7 +22,7 @@ from bench.peer_programs import PEER, build_rust_peer
 from bench.tables import print_table
 from bench.timing import Results, TimedProgram, run_phases
 from bench.workload import HALF, LOAD, LONG, Phase, Workload, dels, gets, write_phases
-from tools import building
+from tools import building, drawing
 from tools.processes import PROGRAM, Command, exit_if_missing
 
 HERE = Path(__file__).resolve().parent
@@ -384,12 +384,13 @@ def arguments() -> argparse.Namespace:
 
 def main() -> None:
     options = arguments()
+    drawing.exit_if_missing()
     if not options.show:
         exit_if_missing(options.program)
         measure(options)
     figures = json.loads(options.figures.read_text())
     print_tables(figures)
-    options.plot.write_text(plot.goals(figures, list(SETTINGS)))
+    plot.goals(figures, list(SETTINGS), options.plot)
 
 
 if __name__ == "__main__":

@@ -9,14 +9,11 @@ from pathlib import Path
 
 sys.path.insert(0, str(Path(__file__).resolve().parent.parent))
 
-from bench import plot
 from bench.peer_programs import PEER, build_rust_peer
 from bench.tables import print_table
 from bench.timing import Results, Sample, TimedProgram, run_phases
 from bench.workload import HALF, KEY, LOAD, LONG, VALUE, Phase, Workload, dels, gets, write_phases
 from tools.processes import PROGRAM, Command, exit_if_missing
-
-HERE = Path(__file__).resolve().parent
 
 
 def sessions(work: Workload) -> list[list[Phase]]:
@@ -151,14 +148,6 @@ def print_growth(results: Results, names: Sequence[str]) -> None:
         print(f"| {phase.name} | {' | '.join(cells)} |")
 
 
-def draw(results: Results, names: Sequence[str], path: Path) -> None:
-    bars: dict[str, list[float]] = {}
-    if PEER in names:
-        for phase in results.phases():
-            bars[phase.name] = [results.speed(phase, name) or 0.0 for name in names if name != PEER]
-    path.write_text(plot.page(bars, results.growth(names)))
-
-
 def arguments() -> argparse.Namespace:
     parser = argparse.ArgumentParser(description=__doc__)
     parser.add_argument("--quick", action="store_true", help="use a fifth of the pairs, and run each session once (about a minute)")
@@ -167,12 +156,9 @@ def arguments() -> argparse.Namespace:
     parser.add_argument("--value-bytes", type=int, default=VALUE, help="bytes of a value, at most 256")
     parser.add_argument("--repeats", type=int, default=2, help="runs of each session; the least time is reported")
     parser.add_argument("--program", type=Path, default=PROGRAM)
-    parser.add_argument("--plot", type=Path, help="file for the plot (default: speed.svg, or none with --quick)")
     options = parser.parse_args()
     if options.quick:
         options.pairs, options.repeats = options.pairs // 5, 1
-    elif options.plot is None and (options.key_bytes, options.value_bytes) == (KEY, VALUE):
-        options.plot = HERE / "speed.svg"
     return options
 
 
@@ -190,8 +176,6 @@ def main() -> None:
     print_scan_memory(results, list(commands))
     print_growth(results, list(commands))
     print_verify(verified)
-    if options.plot:
-        draw(results, list(commands), options.plot)
 
 
 if __name__ == "__main__":

@@ -7,6 +7,7 @@ and once a second. `--full MINUTES` measures a log in steady state, which is cle
 
 import argparse
 import csv
+import itertools
 import os
 import shutil
 import subprocess
@@ -23,12 +24,14 @@ sys.path.insert(0, str(TOP))
 
 from bench import plot
 from bench.tables import print_table
+from tools import drawing
 from tools.processes import exit_if_missing
 from tools.serving import Client, Server
 
 PORT = 7_399  # of Redis
 VALUE, KEYSPACE = 100, 1_000_000  # bytes; keys are random
 CONNECTIONS, PIPELINES = (1, 10, 50, 200, 1_000), (1, 16)
+DRAWN_CONNECTIONS = (50, 1_000)
 FEWEST, MOST = 1_000, 200_000  # requests of a measurement
 FULL_KEYS = 50_000
 
@@ -138,6 +141,16 @@ def row_of(load: Load, by_kind: list[list[Rate]]) -> list[str]:
     return [load.name(), *("; ".join(map(str, rates)) for rates in by_kind), f"{ours / always:.2f}", f"{ours_later / everysec:.2f}"]
 
 
+def drawn_rates(measured: dict[Load, tuple[list[Rate], ...]]) -> dict[str, list[tuple[float, float]]]:
+    """Returns thousands of requests a second of both servers, by connections and pipeline: of SET, durable at once and later, and of GET."""
+    rates = {load: [requests_in(of_kind) / 1_000 for of_kind in by_kind] for load, by_kind in measured.items()}
+    found = {}
+    for depth, count in itertools.product(PIPELINES, DRAWN_CONNECTIONS):
+        puts, gets = (rates[Load(command, count, depth)] for command in ("SET", "GET"))
+        found[f"{count:,}, {depth}"] = [(puts[0], puts[1]), (puts[2], puts[3]), (gets[0], gets[1])]
+    return found
+
+
 def measure_full(kind: Kind, options: argparse.Namespace) -> list[list[str]]:
     """Measures short loads one after the other, until the minutes are over. The first ones fill the log, and then it is cleaned. Returns the first
     row and the second half, or all rows if there are few."""
@@ -164,6 +177,8 @@ def main() -> None:
     parser.add_argument("--plot", type=Path, metavar="FILE", help="draw the requests a second into this file, such as bench/server.svg")
     options = parser.parse_args()
     exit_if_missing(options.program)
+    if options.plot:
+        drawing.exit_if_missing()
     missing = [name for name in ("redis-benchmark", "redis-server") if shutil.which(name) is None]
     if missing:
         sys.exit(f"{missing[0]} is not installed")
@@ -175,8 +190,7 @@ def main() -> None:
     names = [kind.name for kind in KINDS]
     print_table(["load", *names, "always", "each second"], [row_of(load, list(rates)) for load, rates in zip(loads, measured, strict=True)])
     if options.plot:
-        rates_of = {load.name(): list(map(requests_in, rates)) for load, rates in zip(loads, measured, strict=True)}
-        options.plot.write_text(plot.servers(rates_of, names))
+        plot.servers(drawn_rates(dict(zip(loads, measured, strict=True))), options.plot)
 
 
 if __name__ == "__main__":

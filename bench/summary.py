@@ -1,10 +1,14 @@
 """Draws summary.svg from the figures in goals.json, and puts the same figures into README.md as a table of ten rows."""
 
 import json
+import sys
 from collections.abc import Iterable
-from html import escape
 from pathlib import Path
 from typing import Any
+
+sys.path.insert(0, str(Path(__file__).resolve().parent.parent))
+
+from bench import plot
 
 HERE = Path(__file__).resolve().parent
 BIG, SMALL, MAP, LOGGED = "fan 64, chain 16", "defaults", "BTreeMap", "BTreeMap and a log of commands"
@@ -18,9 +22,6 @@ SPEEDS = {  # this plot's names for the rows of goals.json
     "range of 100 pairs": "ranges of 100 rows, by `Store::range`",
 }
 OTHERS = {"LMDB": "LMDB", "LevelDB": "LevelDB", "RocksDB": "RocksDB", "SQLite, WAL, FULL": "SQLite"}
-COLOURS = {BIG: "#3a8f4d", SMALL: "#d1712a"}
-GREY, PALE = "#888888", 0.55
-WIDTH, HEIGHT, TOP, STEP, THICK = 940, 300, 58, 32, 11
 Figures = dict[str, Any]
 
 
@@ -57,59 +58,19 @@ def table(figures: Figures) -> list[str]:
     return [" | ".join(row + [""] * (len(rows[0]) - len(row))).rstrip() for row in rows]
 
 
-def text(x: float, y: float, words: str, anchor: str = "start", size: int = 12) -> str:
-    return f'<text x="{x:.1f}" y="{y:.1f}" text-anchor="{anchor}" font-size="{size}">{escape(words)}</text>'
-
-
-def rect(x: float, y: float, width: float, colour: str, opacity: float = 1.0) -> str:
-    return f'<rect x="{x:.1f}" y="{y:.1f}" width="{width:.1f}" height="{THICK}" fill="{colour}" fill-opacity="{opacity}"/>'
-
-
-def bar(x: float, y: float, width: float, label: str, colour: str, opacity: float = 1.0) -> list[str]:
-    return [rect(x, y, width, colour, opacity), text(x + width + 4, y + 9, label, size=10)]
-
-
-def speeds(figures: Figures) -> list[str]:
-    left, unit = 150, 250
-    parts = [text(left, TOP - 14, "speed, where BTreeMap is 1")]
-    parts.append(f'<line x1="{left + unit}" y1="{TOP - 8}" x2="{left + unit}" y2="{TOP + STEP * len(SPEEDS)}" stroke="{GREY}"/>')
-    for at, (name, of) in enumerate(SPEEDS.items()):
-        y, found = TOP + at * STEP, row_of(figures, of)
-        parts.append(text(left - 8, y + 15, name, "end"))
-        for place, program in enumerate((BIG, SMALL)):
-            if MAP in found and program in found:
-                speed = found[MAP] / found[program]
-                parts += bar(left, y + place * (THICK + 1), speed * unit, f"{speed:.2f}", COLOURS[program])
-    return parts
-
-
-def rates(figures: Figures) -> list[str]:
-    left, room = 640, 240
-    names = {BIG: f"Taukremil, {BIG}", SMALL: f"Taukremil, {SMALL}", LOGGED: "BTreeMap and a log"} | OTHERS
-    found = {store: [rate(figures, store, commits) or 0.0 for commits in (MANY, FEW)] for store in names}
-    most = max(value for of_store in found.values() for value in of_store) or 1.0
-    parts = [text(left, TOP - 14, f"durable puts a second (pale: {FEW})")]
-    for at, (store, of_store) in enumerate(found.items()):
-        y = TOP + at * STEP
-        parts.append(text(left - 8, y + 15, names[store], "end"))
-        for place, value in enumerate(of_store):
-            opacity = PALE if place else 1.0
-            parts += bar(left, y + place * (THICK + 1), value / most * room, f"{value:,.0f}", COLOURS.get(store, GREY), opacity)
-    return parts
-
-
-def plot(figures: Figures) -> str:
-    legend = [rect(550, 10, 12, GREY), text(568, 20, "others")]
-    for at, (program, colour) in enumerate(COLOURS.items()):
-        legend += [rect(150 + at * 200, 10, 12, colour), text(168 + at * 200, 20, f"Taukremil, {program}")]
-    head = f'<svg xmlns="http://www.w3.org/2000/svg" width="{WIDTH}" height="{HEIGHT}" font-family="sans-serif">'
-    white = '<rect width="100%" height="100%" fill="white"/>'
-    return "\n".join([head, white, *legend, *speeds(figures), *rates(figures), "</svg>"]) + "\n"
+def draw(figures: Figures, path: Path) -> None:
+    speeds: dict[str, list[float | None]] = {}
+    for name, of in SPEEDS.items():
+        found = row_of(figures, of)
+        speeds[name] = [found[MAP] / found[program] if MAP in found and program in found else None for program in (BIG, SMALL)]
+    names = {BIG: "Taukremil, 64/16", SMALL: "Taukremil, defaults", LOGGED: "BTreeMap and a log"} | OTHERS
+    rates = {shown: [(rate(figures, store, commits) or 0.0) / 1_000 for commits in (MANY, FEW)] for store, shown in names.items()}
+    plot.summary(speeds, rates, path)
 
 
 def main() -> None:
     figures: Figures = json.loads((HERE / "goals.json").read_text())
-    (HERE / "summary.svg").write_text(plot(figures))
+    draw(figures, HERE / "summary.svg")
     readme, start, end = HERE / "README.md", "<!-- summary -->\n", "<!-- end of summary -->"
     before, _, rest = readme.read_text().partition(start)
     _, _, after = rest.partition(end)
