@@ -1,5 +1,5 @@
-"""Checks the user pages: runs the commands and Python sessions that they show, looks for each code block of EMBEDDING in an example, and follows
-each link.
+"""Checks the user pages: runs the commands and Python sessions that they show, looks for each code block of EMBEDDING and README in an example, and
+follows each link.
 
 In an indented block, a line `$ COMMAND` is a command, and the lines up to the next command are its output. A page's commands are run in order, in
 one folder, where `out` has the built programs.
@@ -94,7 +94,7 @@ def run_client(programs: Programs) -> Outcome:
         return Outcome((ran.stdout + ran.stderr)[-1_000:] if ran.returncode else None)
 
 
-# ---- The functions of docs/EMBEDDING.md.
+# ---- The code of docs/EMBEDDING.md and README.md.
 
 
 def indented(text: str) -> list[str]:
@@ -102,12 +102,13 @@ def indented(text: str) -> list[str]:
     return [re.sub(r"^    ", "", block, flags=re.MULTILINE) for block in blocks]
 
 
-def find_functions() -> Outcome:
+def find_functions(page: str) -> Outcome:
     sources = [path.read_text() for path in sorted(EXAMPLES.glob("*/src/*.rt.in"))]
-    for block in indented((TOP / "docs/EMBEDDING.md").read_text()):
-        # The page indents a part of a function differently.
+    for block in indented((TOP / page).read_text()):
+        # The page indents a part of a function differently, and a block with commands is run.
         lines = [line.strip() for line in block.splitlines()]
-        if not any(block in source or ("fn " not in block and all(line in source for line in lines)) for source in sources):
+        is_run = any(line.startswith("$ ") for line in lines)
+        if not is_run and not any(block in source or ("fn " not in block and all(line in source for line in lines)) for source in sources):
             return Outcome(f"no example has {abbreviate(block.encode())}")
     return Outcome()
 
@@ -139,4 +140,5 @@ def follow_links() -> Outcome:
 def cases(programs: Programs) -> list[Case]:
     pages = [Case(f"the commands of {name}", run_page, (programs, name)) for name in PAGES]
     client = Case("the session of clients/python/README.md", run_client, (programs,))
-    return [*pages, client, Case("the functions of docs/EMBEDDING.md", find_functions), Case("the links of all pages", follow_links)]
+    code = [Case(f"the code of {name}", find_functions, (name,)) for name in ("docs/EMBEDDING.md", "README.md")]
+    return [*pages, client, *code, Case("the links of all pages", follow_links)]
