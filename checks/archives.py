@@ -9,9 +9,10 @@ import sys
 import tarfile
 import tempfile
 from pathlib import Path
+from unittest.mock import patch
 
 from checks import pages
-from tools import debian, man_pages
+from tools import building, debian, man_pages, packing
 from tools.cases import Case, Outcome, Programs, differs
 from tools.packing import LINK, TOP, Packed, pack, pack_debian
 from tools.processes import PATIENCE, Limits, run
@@ -171,7 +172,25 @@ def check_unit(programs: Programs) -> Outcome:
             return Outcome(None if kept == b"1" else f"the stop lost a command: {kept!r}")
 
 
-# ---- A failing `./dist`, and the Debian package.
+# ---- What `./dist` packs, a failing `./dist`, and the Debian package.
+
+
+def check_choice(programs: Programs) -> Outcome:
+    """`./dist` packs a `bwsh` whose stamp says that it was proved, and no other one unless it is asked to."""
+    server = programs.examples / "bwserve"
+    with tempfile.TemporaryDirectory() as name, patch.object(building, "BUILT", Path(name)), patch.object(packing, "PROGRAM", Path(name) / "none"):
+        store, stamp = Path(name) / "bwsh", Path(name) / "bwsh.stamp"
+        shutil.copy(programs.store, store)
+        stamp.write_text(building.stamp_of("bwsh", is_proved=True))
+        if packing.choose(None, server, is_unproved=False) != Packed(store, server, packing.PROVED_BY_BUILD):
+            return Outcome("a proved program was not chosen")
+        stamp.write_text(building.stamp_of("bwsh", is_proved=False))
+        if packing.choose(None, server, is_unproved=True) != Packed(store, server):
+            return Outcome("an unproved program was not chosen")
+        try:
+            return Outcome(f"packed as proved: {packing.choose(None, server, is_unproved=False)}")
+        except packing.PackError as error:
+            return Outcome(None if "run ./build --proved" in str(error) else str(error))
 
 
 def check_refused(programs: Programs) -> Outcome:
@@ -237,6 +256,7 @@ def cases(programs: Programs) -> list[Case]:
         "the client's wheel": check_wheel,
         "the links of the pages": check_links,
         "the unit's stop": check_unit,
+        "the program that is packed": check_choice,
         "a refused ./dist": check_refused,
         "the Debian package": check_package,
     }

@@ -6,7 +6,7 @@ import sys
 import tempfile
 from pathlib import Path
 
-from tools.cases import Case, Outcome, cases_of
+from tools.cases import Case, Outcome
 from tools.processes import TOP, abbreviate
 
 NO_KIT = {"PATH": "/nonexistent"}
@@ -45,6 +45,12 @@ def check_unknown_program() -> Outcome:
     return Outcome(None if is_said else f"status {ran.returncode}, printed {abbreviate(ran.stdout)}")
 
 
+def check_unknown_part() -> Outcome:
+    ran = run_script(TOP, "check", "--only", "archive of")
+    is_said = ran.returncode == 1 and ran.stdout.startswith(b"check: no part's name contains 'archive of'; the parts are tests of the engine, ")
+    return Outcome(None if is_said else f"status {ran.returncode}, printed {abbreviate(ran.stdout)}")
+
+
 def check_no_kit(script: str, words: tuple[str, ...], sentence: str) -> Outcome:
     return differs(run_script(TOP, script, *words, environment=NO_KIT), f"{script}: {KIT_MISSING}, so nothing can be {sentence}")
 
@@ -60,15 +66,11 @@ def exit_early() -> Outcome:
     sys.exit("this check ends its process")
 
 
-def list_no_cases() -> list[Case]:
-    raise ValueError("this part is broken")
-
-
 def check_raised() -> Outcome:
-    """A check that raises an exception, or ends its process, fails, and so does a part whose cases cannot be listed."""
-    outcomes = [Case("raises", raise_error).outcome(), Case("exits", exit_early).outcome(), *(case.outcome() for case in cases_of(list_no_cases))]
-    texts = ["ValueError: this check is broken", "SystemExit: this check ends its process", "ValueError: this part is broken"]
-    lines = [function.__code__.co_firstlineno + 1 for function in (raise_error, exit_early, list_no_cases)]
+    """A check that raises an exception, or ends its process, fails with its file and line."""
+    outcomes = [Case("raises", raise_error).outcome(), Case("exits", exit_early).outcome()]
+    texts = ["ValueError: this check is broken", "SystemExit: this check ends its process"]
+    lines = [function.__code__.co_firstlineno + 1 for function in (raise_error, exit_early)]
     due = [f"checks/mistakes.py:{line}: {text}" for line, text in zip(lines, texts)]
     said = [outcome.wrong for outcome in outcomes]
     return Outcome(None if said == due else f"{said}, and not {due}")
@@ -82,5 +84,6 @@ def cases() -> list[Case]:
         Case("./check without the kit", check_no_kit, ("check", ("--only", "archives"), "built or tested")),
         Case("./check --gate without the kit", check_no_kit, ("check", ("--gate",), "built or tested")),
         Case("./dist without the kit", check_no_kit, ("dist", ("--unproved",), "built")),
+        Case("a part that is not known", check_unknown_part),
         Case("a check that raises an exception", check_raised),
     ]

@@ -50,14 +50,6 @@ class Case:
             return Outcome(describe(error))
 
 
-def cases_of(list_cases: Callable[..., list[Case]], *arguments: Any) -> list[Case]:
-    """Returns the cases of a part, or a case that fails if they cannot be listed."""
-    try:
-        return list_cases(*arguments)
-    except (Exception, SystemExit) as error:
-        return [Case("the list of the cases", Outcome, (describe(error),))]
-
-
 def differs(result: RunResult, status: int, out: bytes, err: bytes = b"") -> str | None:
     """Describes the difference from the expected result, if any."""
     if (result.status, result.out, result.err) == (status, out, err):
