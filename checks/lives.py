@@ -7,7 +7,7 @@ from tools.processes import new_folder
 from tools.soak.lives import PLANTED, SERVICES, UNFLUSHED, Life, Log
 from tools.soak.sessions import Difference
 
-FLUSHES, OF_MANY_COMMANDS, OF_CLIENT, OF_SERVER, OF_PLANTED = 20_000, 8_000, 5_000, 10_000, 4_000
+FLUSHES, OF_MANY_COMMANDS, BY_CALLS, OF_PLANTED = 20_000, 8_000, 10_000, 4_000
 LOGS = [
     Log(16, 4, "new", is_cleaning=False, in_file=False),
     Log(32, 16, "two thirds", is_cleaning=True, in_file=False),
@@ -23,11 +23,11 @@ def lives() -> list[Life]:
     flushes = {service.name: OF_MANY_COMMANDS if service.name == "a store that grows and shrinks" else FLUSHES for service in SERVICES}
     found = [Life(service, log, flushes[service.name]) for service in SERVICES for log in LOGS]
     found += [Life(UNFLUSHED, LOGS[0], FLUSHES)]
-    return found + [Life(service, LOGS[2], OF_CLIENT, "client") for service in SERVICES if service.name in CALLED]
+    return found + [Life(service, LOGS[2], BY_CALLS, "client") for service in SERVICES if service.name in CALLED]
 
 
 def served_lives() -> list[Life]:
-    return [Life(service, LOGS[1], OF_SERVER, "server") for service in SERVICES if service.name in CALLED]
+    return [Life(service, LOGS[1], BY_CALLS, "server") for service in SERVICES if service.name in CALLED]
 
 
 def live(program: Path, life: Life) -> Outcome:
