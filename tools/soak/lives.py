@@ -25,9 +25,9 @@ from taukremil import Del, Put, Store  # noqa: E402
 
 # How much more processor time a flush may take in the last tenth than in the first. The cost of a tenth is that of its cheapest window, since other
 # programs on the machine only add to the processor time of a window, by emptying its caches. In 110 lives on a machine with five programs for each
-# processor the last tenth cost 0.99 times the first in the median, 1.22 times in one of ten lives, and 1.30 times at most. If it seems to cost more, an
-# old and a young program are run in turns, which leaves out what changed on the machine. A cost that is proportional to the number of earlier flushes
-# grows nineteen times from the first tenth to the last.
+# processor the last tenth cost 0.99 times the first in the median, 1.22 times in one of ten lives, and 1.30 times at most. If it seems more,
+# an old and a young program are run in turns, which leaves out what changed on the machine. A cost that is proportional to the number of earlier
+# flushes grows nineteen times from the first tenth to the last.
 MOST_GROWTH = 1.3
 MOST_MEMORY = 2 << 20  # how many bytes more the program may have at the end than after the first tenth
 TENTHS = 10
