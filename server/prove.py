@@ -103,9 +103,16 @@ def with_store() -> Part:
     return ALL.and_(dataclasses.replace(STORE, crates=engine))
 
 
+def read_edit(path: Path) -> bodies.Edit:
+    """Reads an edit of the server, in whose texts \\n stands for the end of a line."""
+    edit = bodies.read_edit(path)
+    changes = tuple((old, new.replace("\\n", "\n")) for old, new in edit.changes)
+    return dataclasses.replace(edit, crate=CRATE, changes=changes)
+
+
 def refuses_broken(workspace: Path, layers: tuple[str, ...]) -> bool:
     """Returns whether the prover refuses each broken function of these layers, and accepts the controls. Prints the verdicts."""
-    edits = [dataclasses.replace(bodies.read_edit(path), crate=CRATE) for path in sorted(HERE.glob("bodies/*.edit"))]
+    edits = [read_edit(path) for path in sorted(HERE.glob("bodies/*.edit"))]
     verdicts = bodies.check_crate(kit.Workspace(workspace), [edit for edit in edits if edit.function.split("::")[0] in layers])
     print("\n".join(map(str, verdicts)), flush=True)
     return all(verdict.wrong is None for verdict in verdicts)
