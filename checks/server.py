@@ -15,10 +15,11 @@ from dataclasses import dataclass
 from functools import partial
 from pathlib import Path
 
+from checks import server_growth, server_info
 from tools.cases import Case, Outcome, Programs
 from tools.failures import FailingCalls
 from tools.processes import MEGABYTE, PATIENCE, new_folder, resident_memory
-from tools.serving import Chooser, Client, Pairs, Refused, Reply, Server, Word, encode, execute, read_all, serving
+from tools.serving import Chooser, Client, Pairs, Refused, Reply, Server, Word, Wrong, differing, encode, execute, read_all, serving
 
 MOST_KEY, MOST_VALUE, MOST_ROWS = 255, 1_024, 262_144
 LONGEST_LINE = 65_536  # without its LF
@@ -28,11 +29,6 @@ KILLS, CLIENTS = 6, 16
 LEAST_SEGMENTS = 3  # of a log
 CONNECTIONS = 1_000
 Request = list[Word]
-Wrong = str | None
-
-
-def differing(what: object, found: object, expected: object) -> Wrong:
-    return None if found == expected else f"{what}: {str(found)[:300]}, and not {str(expected)[:300]}"
 
 
 # ---- Replies.
@@ -47,11 +43,14 @@ TABLE: list[tuple[Request, Reply]] = [
     (["SET", "k", "1"], b"OK"),
     (["SET", "k", "2", "nx"], None),
     (["SET", "n", "2", "NX"], b"OK"),
-    (["SET", "k", "1", "EX", "9"], Refused("ERR unknown option or subcommand 'EX'")),
+    (["SET", "k", "1", "EX", "9"], Refused("ERR syntax error")),
+    (["SET", "k", "1", "XX"], Refused("ERR syntax error")),
     (["GET", "k"], b"1"),
     (["GET", "none"], None),
-    (["get"], Refused("ERR wrong number of arguments for 'get'")),
-    (["MSET", "a", "1", "b"], Refused("ERR wrong number of arguments for 'mset'")),
+    (["get"], Refused("ERR wrong number of arguments for 'get' command")),
+    (["MSET", "a", "1", "b"], Refused("ERR wrong number of arguments for 'mset' command")),
+    (["MSET"], Refused("ERR wrong number of arguments for 'mset' command")),
+    (["SET", "a"], Refused("ERR wrong number of arguments for 'set' command")),
     (["MSET", "a", "1", "b", "2", "a", "3"], b"OK"),
     (["MGET", "a", "b", "c"], [b"3", b"2", None]),
     (["EXISTS", "a", "a", "c"], 2),
@@ -66,6 +65,9 @@ TABLE: list[tuple[Request, Reply]] = [
     (["REVRANGE", "(n", "-", "LIMIT", "1"], [b"k", b"1"]),
     (["SCAN", "0", "MATCH", "?", "COUNT", "100"], [b"0", [b"b", b"k", b"n"]]),
     (["SCAN", "99"], Refused("ERR invalid cursor")),
+    (["SCAN", "0", "MATCH"], Refused("ERR syntax error")),
+    (["SCAN", "0", "TYPE", "string"], Refused("ERR syntax error")),
+    (["RANGE", "-", "+", "COUNT", "1"], Refused("ERR syntax error")),
     (["WIPE", "[k", "[n"], 2),
     (["INCR", "k"], Refused("ERR unknown command 'INCR'")),
     (["EXPIRE'\r\n", "k"], Refused("ERR unknown command 'EXPIRE???'")),
@@ -89,11 +91,12 @@ TABLE: list[tuple[Request, Reply]] = [
     (["DISCARD"], b"OK"),
     (["GET", "t"], b"1"),
     (["CONFIG", "GET", "appendfsync", "none"], [b"appendfsync", b"always"]),
-    (["CONFIG", "SET", "a", "b"], Refused("ERR unknown option or subcommand 'SET'")),
+    (["CONFIG", "SET", "a", "b"], Refused("ERR unknown subcommand 'SET'")),
     (["CLIENT", "SETNAME", "me"], b"OK"),
-    (["CLIENT", "KILL"], Refused("ERR unknown option or subcommand 'KILL'")),
+    (["CLIENT", "KILL"], Refused("ERR unknown subcommand 'KILL'")),
     (["COMMAND", "DOCS"], []),
     (["HELLO", "3"], Refused("NOPROTO unsupported protocol version")),
+    (["HELLO", "2", "AUTH"], Refused("ERR Syntax error in HELLO option 'AUTH'")),
     (["FLUSHALL"], b"OK"),
     (["DBSIZE"], 0),
     (["SET", "k" * MOST_KEY, "v" * MOST_VALUE], b"OK"),
@@ -131,6 +134,23 @@ def scan_all(client: Client, count: int) -> set[bytes]:
         cursor = reply[0]
         if cursor == b"0":
             return found
+
+
+def scan_in_turn(server: Server) -> Wrong:
+    """Two clients scan in turn. Each gets all keys in their order, whatever the other one does."""
+    keys = [b"k%03d" % number for number in range(200)]
+    found: tuple[list[Reply], list[Reply]] = ([], [])
+    with server.client() as first, server.client() as second:
+        first.ask("MSET", *(word for key in keys for word in (key, b"")))
+        cursors: list[Word] = [0, 0]
+        while cursors != [b"0", b"0"]:
+            for at, (client, count) in enumerate(((first, 10), (second, 7))):
+                if cursors[at] != b"0":
+                    reply = client.ask("SCAN", cursors[at], "COUNT", count)
+                    assert isinstance(reply, list) and isinstance(reply[0], bytes) and isinstance(reply[1], list)
+                    cursors[at] = reply[0]
+                    found[at].extend(reply[1])
+    return differing("the first client's keys", found[0], keys) or differing("the second client's keys", found[1], keys)
 
 
 def choose_keys(chance: random.Random) -> list[bytes]:
@@ -518,6 +538,43 @@ def clean(program: Path) -> Outcome:
         return Outcome(wrong or (None if not numbers["log_growths"] else f"{numbers}"), measured=f"{numbers['commits'] - numbers['flushes']} cleans")
 
 
+def restart(program: Path) -> Outcome:
+    """After a restart, the pairs are counted and scanned from the file, and cursors from before are refused."""
+    pairs = {b"k%03d" % number: b"%d" % number for number in range(60)}
+    with new_folder() as folder:
+        path = Path(folder) / "store"
+        with serving(program, path) as server, server.client() as client:
+            client.ask("MSET", *(word for pair in pairs.items() for word in pair))
+            page = client.ask("SCAN", 0, "COUNT", 10)
+            assert isinstance(page, list) and isinstance(page[0], bytes)
+            server.kill()
+        with serving(program, path) as server, server.client() as client:
+            found = [client.ask("DBSIZE"), client.numbers_of("db0")["keys"], client.refusal("SCAN", page[0])]
+            wrong = differing("DBSIZE, the keys of INFO, and a cursor from before", found, [60, 60, "ERR invalid cursor"])
+            wrong = wrong or differing("the keys of a scan", scan_all(client, 7), set(pairs))
+            client.ask("DEL", "k000", "none")
+            client.ask("SETNX", "k060", "")
+            client.ask("SETNX", "k061", "")
+            return Outcome(wrong or differing("DBSIZE after changes", client.ask("DBSIZE"), 61))
+
+
+def shut_down(program: Path) -> Outcome:
+    """What came in front of SHUTDOWN is answered and kept, whenever commands are made durable."""
+    for policy in ("always", "3600"):
+        with new_folder() as folder:
+            path = Path(folder) / "store"
+            with serving(program, path, "--flush", policy) as server, server.client() as other, server.client() as client:
+                other.ask("SET", "other", "1")
+                client.send(["SET", "a", "1"], ["GET", "a"], ["SHUTDOWN", "NOSAVE"])
+                found = [client.read(), client.read(), client.is_ended(), other.is_ended(), server.wait()]
+            wrong = differing(policy, found, [b"OK", b"1", True, True, (0, b"")])
+            with serving(program, path) as server, server.client() as client:
+                wrong = wrong or differing(f"{policy}: pairs after a restart", read_all(client), {b"a": b"1", b"other": b"1"})
+        if wrong:
+            return Outcome(wrong)
+    return Outcome()
+
+
 def fail_device(program: Path, library: Path, call: str) -> Outcome:
     """After a failed write or sync the server prints why and ends, and clients that wait get no answer. The file has what was answered, or one
     request more."""
@@ -661,11 +718,37 @@ def close_streams(program: Path) -> Outcome:
     return Outcome()
 
 
+def show_version(program: Path) -> Outcome:
+    ran = subprocess.run([program, "--version"], stdin=subprocess.DEVNULL, capture_output=True, timeout=PATIENCE)
+    return Outcome(differing("--version", (ran.returncode, ran.stdout, ran.stderr), (0, b"bwserve 0.1.0\n", b"")))
+
+
+def explain_start(program: Path) -> Outcome:
+    """If the server can't start, it prints the path or the address, why, and what to do."""
+    with new_folder() as folder, socket.create_server(("127.0.0.1", 0)) as taken:
+        port = str(taken.getsockname()[1])
+        text, good = Path(folder) / "text", Path(folder) / "good"
+        text.write_bytes(b"this is no store\n" * 100)
+        rows: list[tuple[list[str], list[str]]] = [
+            ([str(text), "--port", "0"], [str(text), "The file holds no store", "Check the path"]),
+            ([f"{folder}/none/store", "--port", "0"], [f"{folder}/none/store", "No such file", "has to exist"]),
+            ([str(good), "--port", port], [f"127.0.0.1:{port}", "ddress already in use", "--port"]),
+            ([str(good), "--port", "0", "--bind", "192.0.2.1"], ["192.0.2.1:0", "annot assign", "--bind"]),
+            ([str(good), "--fan", "3"], [str(good), "The setting fan is out of range. It must be from 4 to 64."]),
+            ([str(good), "--workers", "65"], [str(good), "1 to 64 workers"]),
+        ]
+        for words, parts in rows:
+            ran = subprocess.run([program, *words], stdin=subprocess.DEVNULL, capture_output=True, text=True, timeout=PATIENCE)
+            if ran.returncode != 1 or ran.stdout or not all(part in ran.stderr for part in parts) or ran.stderr.count("\n") != 1:
+                return Outcome(f"{words}: status {ran.returncode}, {ran.stdout!r}, {ran.stderr!r}")
+    return Outcome()
+
+
 def lock_file(program: Path) -> Outcome:
     """A second server on the same file ends at once."""
     with new_folder() as folder, serving(program, Path(folder) / "store"):
         ran = subprocess.run([program, f"{folder}/store", "--port", "0"], stdin=subprocess.DEVNULL, capture_output=True, timeout=PATIENCE)
-    return Outcome(None if ran.returncode == 1 and b"another program" in ran.stderr else f"status {ran.returncode}, {ran.stderr!r}")
+    return Outcome(None if ran.returncode == 1 and f"{folder}/store: Another program has locked the file.".encode() in ran.stderr else f"status {ran.returncode}, {ran.stderr!r}")
 
 
 def cases(programs: Programs, failing: Path) -> list[Case]:
@@ -683,6 +766,7 @@ def cases(programs: Programs, failing: Path) -> list[Case]:
         "a client that never reads": (never_read, ()),
         f"{CONNECTIONS:,} connections": (connect_many, ()),
         "shared flushes": (share_rounds, ()),
+        "two scans in turn": (scan_in_turn, ()),
         **{f"beside a dict, seed {seed}": (beside_model, (seed,)) for seed in range(1, SEEDS + 1)},
     }
     return [
@@ -695,11 +779,17 @@ def cases(programs: Programs, failing: Path) -> list[Case]:
         Case("a full log is cleaned", clean, (program,)),
         *[Case(f"the device fails: {call}", fail_device, (program, failing, call)) for call in ("write", "sync")],
         Case("a flush each second", flush_each_second, (program,)),
+        Case("a restart", restart, (program,)),
+        Case("SHUTDOWN behind other requests", shut_down, (program,)),
+        *server_info.cases(program),
+        *server_growth.cases(program, failing),
         Case("no reply before a sync", trace_calls, (program,)),
         Case("redis-cli", run_client, (program, ["redis-cli", "SET", "a", "1"], is_ok)),
         Case("redis-benchmark", run_benchmark, (program,)),
         Case("redis-py", run_redis_py, (program,)),
         Case("options", refuse_options, (program,)),
+        Case("the version", show_version, (program,)),
+        Case("reasons not to start", explain_start, (program,)),
         Case("closed streams", close_streams, (program,)),
         Case("one server a file", lock_file, (program,)),
     ]

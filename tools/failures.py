@@ -29,11 +29,12 @@ class FailingCalls:
     error: int = errno.EIO
     cuts: bool = False  # reads and writes transfer single bytes
     wait: int = 0  # milliseconds more for each read and write of the file
+    ends: bool = False  # the program ends before the first of these calls
 
     def environment(self, library: Path, file: object) -> dict[str, str]:
         numbers = {"FAIL_FROM": str(self.first), "FAIL_COUNT": str(self.count), "FAIL_ERROR": str(self.error), "FAIL_WAIT": str(self.wait)}
         words = {"LD_PRELOAD": str(library), "FAIL_CALL": self.call, "FAIL_FILE": str(file)}
-        return {**words, **numbers, **({"FAIL_CUT": "1"} if self.cuts else {})}
+        return {**words, **numbers, **({"FAIL_CUT": "1"} if self.cuts else {}), **({"FAIL_ENDS": "1"} if self.ends else {})}
 
 
 def refusing(library: Path, number: int) -> dict[str, str]:

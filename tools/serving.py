@@ -13,6 +13,11 @@ from tools.processes import NO_VARIABLES, PATIENCE, pipe_of
 LISTENING = b"listening at 127.0.0.1:"
 Word = Union[bytes, str, int]
 Pairs = dict[bytes, bytes]
+Wrong = Union[str, None]
+
+
+def differing(what: object, found: object, expected: object) -> Wrong:
+    return None if found == expected else f"{what}: {str(found)[:300]}, and not {str(expected)[:300]}"
 
 
 class Refused(Exception):
@@ -92,6 +97,13 @@ class Client:
         fields = dict(line.split(":", 1) for line in text.decode().splitlines() if ":" in line)
         return {name: int(value) for name, value in fields.items() if value.isdigit()}
 
+    def numbers_of(self, name: str) -> dict[str, int]:
+        """Returns the numbers in a field of INFO that has several."""
+        text = self.ask("INFO")
+        assert isinstance(text, bytes)
+        line = next(line for line in text.decode().splitlines() if line.startswith(f"{name}:"))
+        return {key: int(value) for key, value in (part.split("=") for part in line.split(":", 1)[1].split(","))}
+
     def is_ended(self) -> bool:
         """Whether the server has closed the connection."""
         try:
@@ -143,8 +155,8 @@ class Server:
 
 
 @contextlib.contextmanager
-def serving(program: Path, path: Path, *options: str, before: Sequence[str] = ()) -> Iterator[Server]:
-    server = Server(program, path, *options, before=before)
+def serving(program: Path, path: Path, *options: str, before: Sequence[str] = (), environment: dict[str, str] = NO_VARIABLES) -> Iterator[Server]:
+    server = Server(program, path, *options, before=before, environment=environment)
     try:
         yield server
     finally:

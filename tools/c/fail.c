@@ -4,10 +4,11 @@
    open                         opening the file FAIL_FILE for writing; those that follow are calls on this file, also by a duplicated descriptor:
    hold, share, length          its exclusive lock, its shared lock, asking for its length and identity
    cut, read, write, sync       setting its length, a read, a write, a sync
+   rename                       giving it another name
    thread                       starting a thread: this ends the program with FAIL_ERROR as its status
 
    If FAIL_CUT is set, each read and each write of the file or of a stream transfers one byte. If FAIL_WAIT is set, each read and each write of the
-   file takes FAIL_WAIT milliseconds more. This library is loaded in front of the C library; `tools/failures.py` uses it. It includes nothing, since
+   file takes FAIL_WAIT milliseconds more. If FAIL_ENDS is set, the program ends before the first of the calls, as if it were killed. This library is loaded in front of the C library; `tools/failures.py` uses it. It includes nothing, since
    the kit has a compiler and no headers. */
 typedef __SIZE_TYPE__ size_t;
 
@@ -18,12 +19,12 @@ int strcmp(const char *, const char *);
 long syscall(long, ...);
 void *dlsym(void *, const char *);
 
-enum { READ = 0, WRITE = 1, OPEN = 2, CLOSE = 3, NANOSLEEP = 35, FCNTL = 72, FLOCK = 73, FSYNC = 74, FDATASYNC = 75, FTRUNCATE = 77, EXIT_GROUP = 231, STATX = 332 };
+enum { READ = 0, WRITE = 1, OPEN = 2, CLOSE = 3, NANOSLEEP = 35, FCNTL = 72, FLOCK = 73, FSYNC = 74, FDATASYNC = 75, FTRUNCATE = 77, RENAME = 82, EXIT_GROUP = 231, STATX = 332 };
 enum { O_WRITES = 03, LOCK_EX = 2, F_DUPFD_CLOEXEC = 1030 };
 
 static const char *kind, *path;
 static long first, count, error, pause, made;
-static int cuts, file = -1, duplicate = -1;
+static int cuts, ends, file = -1, duplicate = -1;
 
 __attribute__((constructor)) static void start(void) {
     path = getenv("FAIL_FILE");
@@ -32,6 +33,7 @@ __attribute__((constructor)) static void start(void) {
     count = atol(getenv("FAIL_COUNT"));
     error = atol(getenv("FAIL_ERROR"));
     cuts = getenv("FAIL_CUT") != 0;
+    ends = getenv("FAIL_ENDS") != 0;
     pause = getenv("FAIL_WAIT") ? atol(getenv("FAIL_WAIT")) : 0;
 }
 
@@ -43,6 +45,9 @@ static int fails(const char *call) {
     long number = __atomic_fetch_add(&made, 1, __ATOMIC_SEQ_CST);
     if (number < first || number - first >= count) {
         return 0;
+    }
+    if (ends) {
+        syscall(EXIT_GROUP, error);
     }
     *__errno_location() = error;
     return 1;
@@ -77,6 +82,7 @@ int fcntl(int fd, int what, long value) {
 
 int close(int fd) {
     duplicate = fd == duplicate ? -1 : duplicate;
+    file = fd == file ? -1 : file;
     return syscall(CLOSE, fd);
 }
 
@@ -85,6 +91,8 @@ int flock(int fd, int how) { return is_file(fd) && fails(how & LOCK_EX ? "hold" 
 int statx(int fd, const char *name, int flags, unsigned mask, void *buf) {
     return is_file(fd) && fails("length") ? -1 : syscall(STATX, fd, name, flags, mask, buf);
 }
+
+int rename(const char *from, const char *to) { return strcmp(from, path) == 0 && fails("rename") ? -1 : syscall(RENAME, from, to); }
 
 int ftruncate(int fd, long length) { return is_file(fd) && fails("cut") ? -1 : syscall(FTRUNCATE, fd, length); }
 
