@@ -11,7 +11,7 @@ NAPS = 1.2  # seconds
 
 
 def count_requests(program: Path) -> Outcome:
-    """One client, one request in each round but for a transaction: rounds, requests, commands, flushes and commits are known."""
+    """One client waits for each reply, so each request is a round, until it sends a transaction of seven commands."""
     with new_folder() as folder:
         path = Path(folder) / "store"
         for restarts in range(2):
@@ -20,15 +20,17 @@ def count_requests(program: Path) -> Outcome:
                 for number in range(20):
                     client.ask("SET", f"k{restarts}{number}", "v")
                 client.ask("GET", "k1")
+                alone = client.numbers()
                 client.ask_all([["MULTI"], *([["SET", "t", number] for number in range(7)]), ["EXEC"]])
                 passed = int((time.monotonic() - start) * 1_000_000)
                 found = client.numbers()
-            names = ("commands", "longest_round_commands", "flushes", "commits", "log_growths", "growth_usec")
-            # The transaction's requests may come in several rounds; EXEC is one.
-            expected = (28, 7, 21, 1 + 21 * (restarts + 1), 0, 0)
-            wrong = differing(f"start {restarts}", [found[name] for name in names], list(expected))
+            names = ("rounds", "requests", "commands", "longest_round_commands", "flushes", "commits", "log_growths", "growth_usec")
+            first, commits = [alone[name] for name in names], 1 + 21 * restarts
+            wrong = differing(f"start {restarts}", first, [21, 21, 21, 1, 20, commits + 20, 0, 0])
+            last = [found[name] for name in names if name != "requests"]
+            wrong = wrong or differing(f"start {restarts}, the end", last, [22, 28, 7, 21, commits + 21, 0, 0])
             times = [found[name] for name in ("parse_usec", "batch_usec", "flush_usec", "send_usec")]
-            if wrong or not (22 <= found["rounds"] <= 30) or found["requests"] < 22 or not all(times) or sum(times) > passed:
+            if wrong or not all(times) or sum(times) > passed:
                 return Outcome(wrong or f"start {restarts}: {found}, {passed} us passed")
     return Outcome()
 
