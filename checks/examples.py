@@ -299,8 +299,7 @@ def close(programs: Programs, name: str, closed: str) -> Outcome:
 # ---- The first programs of docs/EMBEDDING.md; checks/pages.py compares that page with their sources.
 
 TOO_LONG = (
-    "A value is longer than the store allows. "
-    "Use a shorter value, or copy the store with a larger max_value in its settings."
+    "Shorten the value, or copy the store with a larger max_value. A value is too long for the store."
 )
 STEPS = f"""new: {{is_new}}, flushed {{number}}
 refused: {TOO_LONG}
