@@ -3,6 +3,7 @@
 import fcntl
 import itertools
 import os
+import re
 import select
 from pathlib import Path
 
@@ -72,10 +73,10 @@ EXPLAINED: list[tuple[tuple[str, ...], bytes, bytes | None, bytes, bytes]] = [
     ),
     (
         (),
-        b"put a 1\nfrob x\n",
+        b"put a 1\n.stat\n",
         b"",
         b"line 2: unknown command\n",
-        b"Nothing was run. A line begins with a command that --help lists, or with #.\n",
+        b"Nothing was run. A line begins with a command that --help lists, or with #. Lines with a dot need --stream.\n",
     ),
     (
         (),
@@ -106,13 +107,42 @@ EXPLAINED: list[tuple[tuple[str, ...], bytes, bytes | None, bytes, bytes]] = [
         b"line 36: The log has no room for this. Lines clean or --clean-when-full may make room. If they do not, copy the store "
         b"with .copy or --copy-to to a file with more --segments.\n",
     ),
+    (
+        ("--create", "--pairs=4294967295"),
+        b"put a 1\n",
+        b"",
+        b"fault 1 BadSettings segments\n",
+        b"Nothing was run. These --pairs do not fit into the largest log, of 65536 segments of 1 MiB.\n",
+    ),
+    (
+        ("--create", "--pairs=9", "--max-key=256"),
+        b"put a 1\n",
+        b"",
+        b"fault 1 BadSettings max_key\n",
+        b"Nothing was run. --help has the range of max_key. A segment has to hold a full page of the longest keys and values.\n",
+    ),
+    (
+        ("--create", "--pairs=9", "--max-value=1025"),
+        b"put a 1\n",
+        b"",
+        b"fault 1 BadSettings max_value\n",
+        b"Nothing was run. --help has the range of max_value. A segment has to hold a full page of the longest keys and values.\n",
+    ),
+    (
+        (*SMALL_STORE, "--clean-when-full"),
+        b"".join(b"put sixteen_bytes_%d sixteen_bytes_v1\n" % pair for pair in range(10, 30)) + b"flush\n",
+        None,
+        b"fault 10 Full\n",
+        b"line 21: The log has no room for this. With --stream, .tidy may make room. If it does not, copy the store with .copy or --copy-to to a file "
+        b"with more --segments.\n",
+    ),
 ]
 
 
 def print_version(programs: Programs) -> Outcome:
     """--version does not read the input, and wins over invalid options."""
     words: Command = [programs.store, "--version", "--fan=65", "--workers=0", "--disk=/no/such"]
-    wrong = differs(run(words, limits=Limits(redirections="<&-")), 0, b"bwsh 0.1.0\n")
+    wrong = differs(run(words, limits=Limits(redirections="<&-")), 0, b"bwsh 0.2.0 bytes 1\n")
     again = run([programs.store, "--version", "--version"])
     if again.status != 2 or again.out:
         wrong = wrong or f"the option twice ended with {again.describe()}"
@@ -131,6 +161,8 @@ HELP = [
     b"--stream",
     b"Answers each batch before it reads on",
     b"--tidy",
+    b"makes flushes larger",
+    b"--pairs",
     b"--progress",
 ]
 
@@ -156,12 +188,20 @@ def explain_files(programs: Programs) -> Outcome:
         path.write_bytes(b"0123456789")
         text = b"put a 1\nflush\n"
         ran = run_explained(programs, path, text)
-        end = b"and was left as it was. With --create a new store replaces what it holds.\n"
+        end = b"Check the path. The file holds no store, or a part of one. With --create a new store replaces what it holds.\n"
         wrong = wrong_explanation(ran, b"fault 12 NotAStore\n", path, end)
+        damaged = Path(folder) / "damaged"
+        run([programs.store, *SMALL_STORE, "--create", "--disk", damaged], text)
+        with damaged.open("r+b") as file:
+            file.seek(512)
+            file.write(b"\xff")
+        ran = run_explained(programs, damaged, text)
+        end = b"Restore a backup. The file is damaged: 14 BadSegment 0.\n"
+        wrong = wrong or wrong_explanation(ran, b"fault 14 BadSegment 0\n", damaged, end)
         with path.open("rb+") as held:
             fcntl.flock(held, fcntl.LOCK_EX)
             ran = run_explained(programs, path, text)
-        end = b". Another program has locked the file. Wait until it ends.\n"
+        end = b". Another program has locked the file. Wait until it ends, or use --wait.\n"
         wrong = wrong or wrong_explanation(ran, b"fault 9 Device\n", path, end)
         ran = run_explained(programs, Path(folder), text)
         end = b"Is a directory (os error 21). A store has to be a file.\n"
@@ -254,9 +294,109 @@ def explain_idle_options(programs: Programs) -> Outcome:
         wrong = wrong or differs(run([programs.store, "--explain", "--fan=4", *on_disk], b"get a\n"), 0, b"value 1\n", IDLE_SETTINGS)
         wrong = wrong or differs(run([programs.store, "--explain", "--stream", "--fan=4", *on_disk], b"get a\n"), 0, b"value 1\n", IDLE_SETTINGS)
         wrong = wrong or differs(run([programs.store, "--explain", "--fan=4", *on_disk, "--copy-to", copy], b""), 0, b"")
+        wrong = wrong or differs(run([programs.store, "--create", "--explain", "--pairs=9"], text), 0, b"new\nflushed 2\n")
         refused = run([programs.store, "--explain", "--create"], b"x\n")
-        explained = b"Nothing was run. A line begins with a command that --help lists, or with #.\n"
+        explained = b"Nothing was run. A line begins with a command that --help lists, or with #. Lines with a dot need --stream.\n"
         return Outcome(wrong or differs(refused, 3, b"", bad + explained + IDLE_CREATE))
+
+
+def explain_own_copy(programs: Programs) -> Outcome:
+    """A stream can't be copied to the file of its store, by its own path or by another one."""
+    with new_folder() as folder:
+        path, link = Path(folder) / "store", Path(folder) / "link"
+        link.symlink_to(path)
+        words: Command = [programs.store, "--stream", "--explain", "--create", "--disk", path]
+        own = b"This is the file of the store itself."
+        other = b"Another program has locked the file, or it is the file of the store itself."
+        wrong = None
+        for copy, advice in ((path, own), (link, other)):
+            ran = run(words, b"put a 1\n.copy %s\nget a\n" % str(copy).encode())
+            said = f"{copy}: ".encode(), b". " + advice + b" There is no copy.\n"
+            is_right = ran.status == 0 and ran.out == b"new\nfault 9 Device\nvalue 1\n"
+            is_right = is_right and ran.err.startswith(said[0]) and ran.err.endswith(said[1])
+            wrong = wrong or (None if is_right else f"a copy to {copy.name}: {ran.describe()}")
+        return Outcome(wrong)
+
+
+# Options, and the settings that `Settings::for_pairs` is documented to choose: 32 entries, 16 runs, segments of a sixteenth of the room, but at least
+# eight full pages and at most 1 MiB, and four segments more than the room needs. A pair takes 5 bytes, its key and its value, and each 16 pairs take 28
+# bytes and two keys; the room is 21 times that. A full page has 33 bytes, a key and 32 changes of 5 bytes, a key and a value (3 and 8 for short values).
+PAIRS: list[tuple[tuple[str, ...], bytes]] = [
+    (("--pairs=1000000", "--max-key=16", "--max-value=100"), b"32 16 16 100 1048576 2502"),
+    (("--pairs=1000", "--max-key=16", "--max-value=100"), b"32 16 16 100 %d 20" % (21 * (121_000 + 63 * 60) // 16)),
+    (("--pairs=1", "--max-key=1", "--max-value=0"), b"32 16 1 0 %d 4" % (8 * 418)),
+    (("--pairs=9999",), b"32 16 64 256 1048576 %d" % (21 * (9_999 * 325 + 625 * 156) // 1_048_576 + 4)),
+    (("--pairs=0", "--fan=8", "--segments=9"), b"8 4 64 256 65536 9"),
+    (("--pairs=+9", "--max-key=1", "--max-value=0"), b"32 16 1 0 %d 4" % (8 * 418)),
+]
+
+
+def settings_in(programs: Programs, path: Path) -> bytes:
+    """Returns the settings that a store has, as `.stat` prints them."""
+    ran = run([programs.store, "--stream", "--disk", path], b".stat\n")
+    return b" ".join(re.findall(rb"\d+", ran.out.splitlines()[-1])) if ran.status == 0 else ran.describe().encode()
+
+
+def size_by_pairs(programs: Programs) -> Outcome:
+    """A new store, and a copy, have the settings for the number of pairs."""
+    with new_folder() as folder:
+        for number, (words, right) in enumerate(PAIRS):
+            store, copy = Path(folder) / f"store {number}", Path(folder) / f"copy {number}"
+            made = run([programs.store, "--create", "--disk", store, *words], b"put a %\nflush\n")
+            copied = run([programs.store, "--copy-to", copy, *words], b"")
+            found = [settings_in(programs, path) for path in (store, copy)]
+            if made.status or copied.status or found != [right, right]:
+                return Outcome(f"{words}: {found}, where {right!r} was expected; {made.describe()}; {copied.describe()}")
+        return Outcome()
+
+
+SIZES_GIVEN = b"error: --pairs chooses --fan, --chain, --seg-size and --segments: leave these out\n"
+IDLE_PAIRS = b"error: --pairs needs --create or --copy-to\n"
+# Whether the options are refused, and how.
+PAIRS_BESIDE: list[tuple[tuple[str, ...], bytes | None]] = [
+    (("--create",), None),
+    (("--copy-to=copy",), None),
+    (("--create", "--max-key=9", "--max-value=9", "--workers=2", "--tidy=2"), None),
+    ((), IDLE_PAIRS),
+    (("--disk=store",), IDLE_PAIRS),
+    (("--stream", "--fan=8"), IDLE_PAIRS),
+    (("--create", "--fan=8"), SIZES_GIVEN),
+    (("--create", "--fan=16"), SIZES_GIVEN),
+    (("--create", "--chain=4"), SIZES_GIVEN),
+    (("--create", "--seg-size=65536"), SIZES_GIVEN),
+    (("--copy-to=copy", "--segments=64"), SIZES_GIVEN),
+]
+
+
+def refuse_pairs(programs: Programs) -> Outcome:
+    """--pairs is refused where it has no effect, and beside an option that it replaces, also if that has its default."""
+    for words, why in PAIRS_BESIDE:
+        for order in itertools.permutations((*words, "--pairs=9")) if len(words) < 3 else [(*words, "--pairs=9")]:
+            with new_folder() as folder:
+                ran = run([programs.store, *order], b"put a 1\n", folder=Path(folder))
+                files = sorted(path.name for path in Path(folder).iterdir())
+            if why is None:
+                wrong = differs(ran, 0, b"new\n")
+            else:
+                is_right = (ran.status, ran.out) == (2, b"") and ran.err.startswith(why) and ran.err.endswith(b"try '--help'.\n") and not files
+                wrong = None if is_right else f"{ran.describe()}, and files {files}"
+            if wrong:
+                return Outcome(f"{order}: {wrong}")
+    shown = run([programs.store, "--pairs=9", "--help"])
+    return Outcome(None if shown.status == 0 and not shown.err else shown.describe())
+
+
+def fill_by_pairs(programs: Programs) -> Outcome:
+    """A log for 967 pairs of 600 bytes, which are overwritten all at once or a tenth at a time, doesn't get full. One for half of them does."""
+    for pairs, most in ((967, 967), (967, 97)):
+        lines = []
+        for turn in range(40):
+            lines += [b"put k%015d %s\n" % ((turn * most + number) % pairs, b"%d" % (turn % 10) * 600) for number in range(most)] + [b"flush\n"]
+        words: Command = [programs.store, "--create", f"--pairs={pairs}", "--max-key=16", "--max-value=600", "--clean-when-full"]
+        ran = run(words, b"".join(lines) + b"verify\n")
+        if ran.status or ran.err or ran.out.count(b"flushed ") != 40:
+            return Outcome(f"{most} of {pairs} at a time: {ran.describe()}")
+    return Outcome()
 
 
 MEMORY = 20_000  # KB of address space, enough for a small store
@@ -436,17 +576,27 @@ def live_for_ever(programs: Programs, kind: str) -> Outcome:
 
 
 def keep_queue(programs: Programs, value: int, most: int, seg_size: int, factor: int) -> Outcome:
-    """A queue of 1,000 pairs, with the log that docs/OPERATING.md advises (its factor is 14), or with a log of half that size, where a compacted tree
-    fits only after cleans."""
+    """A queue of 1,000 pairs, with a log of 14 times its bytes, or with a log of half that size, where a compacted tree fits only after cleans."""
     segments = -(-factor * (1_000 + most) * (8 + value + 10) // seg_size) + 1
     words: Command = [programs.store, "--fan=64", "--chain=4", f"--seg-size={seg_size}", f"--segments={segments}", "--clean-when-full"]
+    wrong = wrong_queue(words, value, most)
+    return Outcome(wrong, measured=f"{segments} segments")
+
+
+def keep_sized_queue(programs: Programs, value: int, most: int) -> Outcome:
+    """A queue of 1,000 pairs, with the log that docs/OPERATING.md advises: for twice as many pairs as it has at any time."""
+    sizes = (f"--pairs={2 * (1_000 + most)}", "--max-key=8", f"--max-value={value}")
+    return Outcome(wrong_queue([programs.store, "--create", *sizes, "--clean-when-full"], value, most))
+
+
+def wrong_queue(words: Command, value: int, most: int) -> str | None:
     lines = [b"put q%07d %s\n" % (number, b"v" * value) for number in range(1_000)]
     for first in range(0, 20_000, most):
         lines += [b"put q%07d %s\n" % (first + 1_000 + number, b"v" * value) for number in range(most)]
         lines += [b"del q%07d\n" % (first + number) for number in range(most)] + [b"flush\n"]
     ran = run(words, b"".join(lines) + b"verify\n")
     is_right = not ran.status and not ran.err and ran.out.count(b"flushed ") == 20_000 // most and ran.out.endswith(b" 1000\n")
-    return Outcome(None if is_right else ran.describe(), measured=f"{segments} segments")
+    return None if is_right else ran.describe()
 
 
 SMALL_COMMITS = b"".join(b"put k%03d %d\nflush\n" % (number % 500, number) for number in range(5_000))
@@ -479,6 +629,10 @@ def cases(programs: Programs) -> list[Case]:
         Case("explains a closed output after a copy", explain_closed_output, (programs,)),
         Case("explains options without an effect", explain_idle_options, (programs,)),
         Case("explains a line that can't be read", explain_long_line, (programs,)),
+        Case("explains a copy to the store's own file", explain_own_copy, (programs,)),
+        Case("chooses settings for a number of pairs", size_by_pairs, (programs,)),
+        Case("refuses a number of pairs without effect", refuse_pairs, (programs,)),
+        Case("makes a log that is large enough for its pairs", fill_by_pairs, (programs,)),
         Case("prints numbers", print_numbers, (programs,)),
         Case("prints numbers of a file that is shared", print_numbers_of_file, (programs,)),
         Case("cleans a full log", clean_when_full, (programs,)),
@@ -492,5 +646,6 @@ def cases(programs: Programs) -> list[Case]:
         *(Case(f"keeps a queue with {row[0]} bytes a value, {row[1]} pairs a batch", keep_queue, (programs, *row, 14)) for row in QUEUES),
         *(Case(f"keeps a queue in half the log, {row[0]} bytes a value, {row[1]} pairs a batch", keep_queue, (programs, *row, 7)) for row in QUEUES),
         Case("flushes one put as fast in a large segment", compare_segments, (programs,)),
+        *(Case(f"keeps a queue by --pairs, {row[0]} bytes a value, {row[1]} pairs a batch", keep_sized_queue, (programs, *row[:2])) for row in QUEUES),
         *(Case(f"keeps a queue with {kind}", live_for_ever, (programs, kind)) for kind in ("--fan=64 --chain=16", "--fan=16 --chain=4", "--fan=64 --chain=4")),
     ]

@@ -1,5 +1,5 @@
 -- The meaning of the words of the command line is the result of `clap`, or its reason to refuse them.
-use Rattle.std.proofs.Common.{◌≡◌, ◌∙◌, ◌++◌, ◌||◌, ◌&&◌, ◌==◌, not, ap, refl, sym, subst, inl, inr, Bool, true, false, cond, List, [], ◌∷◌, map, Option, Some, None, Result, Ok, Err, IfErr, IsErrAnd, codes}
+use Rattle.std.proofs.Common.{◌≡◌, ◌∙◌, ◌⊎◌, ◌++◌, ◌||◌, ◌&&◌, ◌==◌, not, ap, refl, sym, subst, inl, inr, Bool, true, false, cond, List, [], ◌∷◌, map, Option, Some, None, Result, Ok, Err, IfErr, IsErrAnd, codes}
 use Rattle.std.specs.Prelude.{is_some, pos}
 use Rattle.std.specs.List.{fold, list_all, list_any}
 use Rattle.std.specs.Str.{bytes_eq}
@@ -13,9 +13,9 @@ use Rattle.clap.specs.Faults.{defaults_fault, entered_fault, fault_of, level_fau
 use Rattle.clap.specs.Words.{kind_of, matches_of}
 use Rattle.clap.specs.declared.error.Error.{Error}
 use Rattle.clap.specs.declared.error.kind.ErrorKind.{ErrorKind}
-use Rattle.clap.specs.declared.error.kind.ErrorKind.TheVariants.{DisplayHelp, ValueValidation}
+use Rattle.clap.specs.declared.error.kind.ErrorKind.TheVariants.{ArgumentConflict, DisplayHelp, OutOfMemory, ValueValidation}
 use Rattle.clap.proofs.WalkLemmas.{both}
-use Rattle.bwsh.specs.Options.{Asked, options, help, refused, Given, IsRightKind, Text, asked, flag_names, is_number, is_refusal, path_names, takes_nothing, takes_number, takes_path}
+use Rattle.bwsh.specs.Options.{Asked, options, help, refused, Given, IsRightKind, Text, asked, asked_from, flag_names, go_together, is_number, is_refusal, path_names, takes_nothing, takes_number, takes_path, together}
 use Rattle.bwsh.specs.CommandLine.{AreGivable, built_flag, built_number, built_path, built_rules, bwsh, finished_rows, given_row, number_defaults}
 use Rattle.bwsh.proofs.TurnLemmas.{HasOptions, TakesText, any_of, built_help, held, or_else-none, shape, standing}
 use Rattle.bwsh.proofs.CommandLineLemmas.{Comes, rest_fault, rest_rows, words_come}
@@ -194,40 +194,55 @@ rows_are words =
 
 -- ---- the whole
 
-from_asked : (words : List Text) (kinds : Kinds) (rows : List Row) (asked_for : Asked) → asked words ≡ asked_for → Comes kinds rows asked_for
-    → (kinds ≡ [] → (given : Given) × (asked words ≡ options given) × (rows ≡ map given_row given) × AreGivable given)
+-- the result of parsing the words, before it is seen whether the options go together
+abbrev pub parsed : List Text → Asked
+parsed words = asked_from words None []
+
+from_asked : (words : List Text) (kinds : Kinds) (rows : List Row) (asked_for : Asked) → parsed words ≡ asked_for → Comes kinds rows asked_for
+    → (kinds ≡ [] → (given : Given) × (parsed words ≡ options given) × (rows ≡ map given_row given) × AreGivable given)
     × ((kind : ErrorKind) → IsAmong kind kinds → IsRightKind words kind)
 from_asked words kinds rows (options given) e h = (λ none. (given, e, h.1, h.2), λ kind among. absurd (subst (IsAmong kind) h.0 among))
 from_asked words kinds rows help e h = (
   λ none. let bad : [] ≡ DisplayHelp ∷ [] = sym none ∙ h in cc,
   λ kind among. elim (subst (IsAmong kind) h among) [
-    | inl is ↦ inr (inl (is, e))
+    | inl is ↦ inr (inl (is, ap together e))
     | inr none ↦ absurd none
   ],
 )
 from_asked words kinds rows refused e h = (
   λ none. let bad : [] ≡ h.0 ∷ [] = sym none ∙ h.1 in cc,
   λ kind among. elim (subst (IsAmong kind) h.1 among) [
-    | inl is ↦ inr (inr (ap is_refusal is ∙ h.2, e))
+    | inl is ↦ inr (inr (ap is_refusal is ∙ h.2, ap together e))
     | inr none ↦ absurd none
   ],
 )
 
-words_come_to : (words : List Text) → Comes (fault_of bwsh words) (rest_rows rules (standing [] None idle false) words) (asked words)
+words_come_to : (words : List Text) → Comes (fault_of bwsh words) (rest_rows rules (standing [] None idle false) words) (parsed words)
 words_come_to words =
-    subst (λ (ks : Kinds). Comes ks (rest_rows rules (standing [] None idle false) words) (asked words)) (sym (faults_are words)) (words_come rules has_options words)
+    subst (λ (ks : Kinds). Comes ks (rest_rows rules (standing [] None idle false) words) (parsed words)) (sym (faults_are words)) (words_come rules has_options words)
 
--- if no word has a fault, the words ask for the given options, and these are the result
+-- if no word has a fault, the words are parsed as the given options, and these are the result
 pub options_are_asked : (words : List Text) (rows : List Row) → fault_of bwsh words ≡ [] → rows ≡ matches_of bwsh words
-    → (given : Given) × (asked words ≡ options given) × (rows ≡ finished_rows given) × AreGivable given
+    → (given : Given) × (parsed words ≡ options given) × (rows ≡ finished_rows given) × AreGivable given
 options_are_asked words rows none is_rows =
-    let w = (from_asked words _ _ (asked words) refl (words_come_to words)).0 none in
+    let w = (from_asked words _ _ (parsed words) refl (words_come_to words)).0 none in
     (w.0, w.1, is_rows ∙ rows_are words ∙ ap (λ (rs : List Row). fold with_default rs built_rules) w.2, w.3)
 
 -- an error is a failed allocation, or is possible for the words
 pub error_is_right : (words : List Text) (e : Error) → HasKind (fault_of bwsh words) e → IsRightKind words (kind_of e)
 error_is_right words e (inl memory) = inl memory
-error_is_right words e (inr among) = (from_asked words _ _ (asked words) refl (words_come_to words)).1 (kind_of e) among
+error_is_right words e (inr among) = (from_asked words _ _ (parsed words) refl (words_come_to words)).1 (kind_of e) among
+
+-- if the given options go together, the words ask for them; otherwise, the words are refused
+pub asked_by_parsed : (words : List Text) (given : Given) (b : Bool) → parsed words ≡ options given → go_together given ≡ b → asked words ≡ cond b (options given) refused
+asked_by_parsed words given b is together_is = ap together is ∙ ap (λ (t : Bool). cond t (options given) refused) together_is
+
+-- an error that `--pairs` causes is right
+pub pairs_error_is_right : (words : List Text) (given : Given) (kind : ErrorKind) (b : Bool) → parsed words ≡ options given → go_together given ≡ b
+    → (kind ≡ OutOfMemory) ⊎ ((kind ≡ ArgumentConflict) × (b ≡ false)) → IsRightKind words kind
+pairs_error_is_right words given kind b is together_is (inl memory) = inl memory
+pairs_error_is_right words given kind b is together_is (inr (conflict, no)) =
+    inr (inr (ap is_refusal conflict, asked_by_parsed words given false is (together_is ∙ no)))
 
 pub handed_on : {X : Type 0} (r : Result X Error) (e : Error) (P : Error → Type 0) → IsErrAnd r (λ f. f ≡ e) → P e → IfErr r P
 handed_on (Ok x) e P h p = absurd h

@@ -28,7 +28,7 @@ use Rattle.bwsh.specs.declared.session.SessionError.TheVariants.{Words, Bad, Dev
 use Rattle.bwsh.specs.declared.session.SessionError.TheVariants as errors
 use Rattle.bwsh.specs.BatchFile.{AreRead, IsReadError, first_bad, orders_in, parse_text}
 use Rattle.bwsh.specs.Ends.{HasBegun, HasBegunOn, IsAllDone, IsBad, IsDoneOn}
-use Rattle.bwsh.specs.Options.{Given, Request, AsksFor, AsksForText, AreRefused, IsRightKind, copy_of, is_refusal, request_by}
+use Rattle.bwsh.specs.Options.{Given, Request, AsksFor, AsksForText, AreRefused, IsRightKind, copy_of, is_refusal, mode_of}
 use Rattle.bwsh.specs.Options.Asked.{options}
 use Rattle.bwsh.specs.Session.{Answers, AreLeft, AreReadOf, EndsBy, IsEndAfter, IsForWords, IsStart, IsStartBy, IsUncopied, IsUnopened, Prints, PrintsOneText, Reads, Runs, RunsAll, RunsFrom, RunsOn, RunsRead, RunsRequest, Start, answered, end_from, found_start, lines_from, map_kept, map_kept_from, new_start, orders_end, session_orders, start_for_copy, start_unless_bad, status_of_end, stopped_by, first_refusal, untidied, version_text}
 use Rattle.bwsh.proofs.CopiedLemmas.{End, IsLeft, OnOk-flushed, Prints-done, Prints-none, Prints-right, PrintsCopied-begun, PrintsCopied-early, PrintsCopied-front, PrintsCopied-left, PrintsCopied-made, PrintsCopied-other, PrintsCopied-plain}
@@ -464,14 +464,15 @@ module _ (request : Request) (known old new : Option Bytes) where
 options_same : (given others : Given) → options given ≡ options others → given ≡ others
 options_same given others e = let injective : given ≡ others = cc in injective
 
--- words ask for one thing
-same_request : (words : List Bytes) (one other : Request) → AsksFor words one → AsksFor words other → one ≡ other
-same_request words one other (given, asks, is) (others, also, are) =
-    let same : given ≡ others = options_same given others (sym asks ∙ also) in is ∙ ap request_by same ∙ sym are
+-- words ask for one mode
+same_mode : (words : List Bytes) (one other : Request) → AsksFor words one → AsksFor words other → one.mode ≡ other.mode
+same_mode words one other (given, asks, sized, is) (others, also, fit, are) =
+    let same : given ≡ others = options_same given others (sym asks ∙ also) in
+    ap (λ (r : Request). r.mode) is ∙ ap mode_of same ∙ sym (ap (λ (r : Request). r.mode) are)
 
 -- words that name a store are not refused
 not_refused : (words : List Bytes) (request : Request) → AsksFor words request → AreRefused words → ⊥
-not_refused words request (given, tells, is) refused = cc
+not_refused words request (given, tells, sized, is) refused = cc
 
 -- nor are words that ask for a text
 text_not_refused : (words : List Bytes) → AsksForText words → AreRefused words → ⊥
@@ -542,7 +543,7 @@ module _ (words : List Bytes) (known old new : Option Bytes) (unread untouched :
   bad_end (Err Device) s p = absurd (omega arith)
   bad_end (Err (Bad line why)) s (inl (request, tells, runs, answers)) =
       let (no_stream, none, some) = request_bad request known old new line why answers in (
-        λ (other, asks, streams). no_stream (subst (λ (r : Request). r.mode.stream ≡ true) (same_request words other request asks tells) streams),
+        λ (other, asks, streams). no_stream (subst (λ (m : Mode). m.stream ≡ true) (same_mode words other request asks tells) streams),
         none,
         some,
       )

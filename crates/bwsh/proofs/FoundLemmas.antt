@@ -1,21 +1,28 @@
 -- The values of the options: those that were given, and the defaults of the others.
-use Rattle.std.proofs.Common.{◌≡◌, ◌∙◌, ◌++◌, ◌||◌, ap, refl, sym, subst, ℕ, Bool, true, false, cond, List, [], ◌∷◌, map, not, Option, Some, None, append-nil, codes, is_some}
+use Rattle.std.proofs.Common.{◌≡◌, ◌∙◌, ◌++◌, ◌||◌, ap, refl, sym, subst, ℕ, Bool, true, false, cond, List, [], ◌∷◌, map, not, Option, Some, None, append-nil, codes, is_some, ⊥}
 use Rattle.std.specs.List.{find, fold}
 use Rattle.std.specs.Option.{option_map, option_or}
-use Rattle.std.specs.Prelude.{option_and_then, slice_get, unwrap_or}
+use Rattle.std.specs.Prelude.{nat_le, option_and_then, slice_get, unwrap_or}
 use Rattle.std.specs.Str.{bytes_eq}
 use Rattle.std.proofs.lemmas.List.Elements.{All-head, All-tail}
 use Rattle.std.proofs.lemmas.Slice.Eq.{bytes_eq-Decides}
 use Rattle.crew.specs.declared.limits.Crew.{Crew}
+use Rattle.keys.specs.Limits.{first_bad_field, first_failed, is_in_limits, longest_frame}
+use Rattle.keys.specs.declared.settings.Field.TheVariants.{Chain, Fan, MaxKey, MaxValue, SegSize, Segments}
 use Rattle.keys.specs.declared.settings.Settings.{Settings}
 use Rattle.bwsh.specs.declared.options.asked.Mode.{Mode}
 use Rattle.clap.specs.Lexer.{without_minus}
-use Rattle.clap.specs.Walk.{Row, Rule, at_row, default_rows, first_of, has_row, more_values, one_of, reading_by, row_text, with_default}
+use Rattle.clap.specs.Facts.{Entry}
+use Rattle.clap.specs.Matches.{matched_of}
+use Rattle.clap.specs.Walk.{Row, Rule, at_row, default_rows, first_of, has_row, more_values, one_of, reading_by, row_of, row_text, rows_of, with_default}
 use Rattle.clap.specs.declared.builder.value_parser.Reading.TheVariants.{AsWritten, WithoutMinus}
-use Rattle.clap.specs.declared.parser.matches.ValueSource.TheVariants.{DefaultValue}
+use Rattle.clap.specs.declared.parser.matches.Found.{Found}
+use Rattle.clap.specs.declared.parser.matches.MatchedArg.{MatchedArg}
+use Rattle.clap.specs.declared.parser.matches.ValueSource.{ValueSource}
+use Rattle.clap.specs.declared.parser.matches.ValueSource.TheVariants.{CommandLine, DefaultValue}
 use Rattle.clap.specs.Values.{read_as}
-use Rattle.clap.proofs.WalkLemmas.{find-map}
-use Rattle.bwsh.specs.Options.{Text, Given, fits, flag_names, is_given, is_number, number_of, number_or, path_names, path_of, takes_nothing, takes_number, takes_path}
+use Rattle.clap.proofs.WalkLemmas.{find-map, find_row}
+use Rattle.bwsh.specs.Options.{Text, Given, fits, flag_names, is_given, is_number, number_names, number_of, number_or, path_names, path_of, takes_nothing, takes_number, takes_path}
 use Rattle.bwsh.specs.CommandLine.{AreGivable, IsGivable, built_rules, finished_rows, given_row, reading_at}
 use Rattle.bwsh.proofs.TurnLemmas.{any_of, no_number}
 
@@ -229,6 +236,56 @@ flag_read name is given rows result all is_rows set unset = go (find (λ g. byte
         ∙ given_text name g named ∙ ap (λ (b : Bool). Some (read_as (cond b WithoutMinus AsWritten) g.1)) (no_number name is)
         ∙ ap (λ (t : Text). Some t) (flag (ap takes_nothing named ∙ is)))
     go None e = unset (ap (one_of name) is_rows ∙ ap (option_and_then row_text) (found_at name given None e) ∙ default_flag name is)
+
+-- an option that takes a number and was not given has a default
+default_number : (name : Text) → takes_number name ≡ true → option_and_then (λ (r : Row). r.source) (find (at name) (defaults_in built_rules)) ≡ Some DefaultValue
+default_number = any_of (λ name. option_and_then (λ (r : Row). r.source) (find (at name) (defaults_in built_rules)) ≡ Some DefaultValue) number_names
+    (refl, (refl, (refl, (refl, (refl, (refl, (refl, (refl, (refl, (refl, (refl, tt)))))))))))
+
+-- where the value of an option comes from that takes a number
+abbrev pub source_by : Bool → ValueSource
+source_by true = CommandLine
+source_by false = DefaultValue
+
+pub source_read : (name : Text) → takes_number name ≡ true → (given : Given) (f : Found) → rows_of f ≡ finished_rows given
+    → option_and_then (λ a. a.source) (matched_of f name) ≡ Some (source_by (is_given name given))
+source_read name is given f rows =
+    from (find (λ e. bytes_eq e.0.now name) f.entries.items) ∙ ap (option_and_then (λ (r : Row). r.source)) (sym (find_row f.entries.items name) ∙ ap (find (at name)) rows)
+    ∙ go (find (λ g. bytes_eq g.0 name) given) refl ∙ ap (λ (b : Bool). Some (source_by b)) (sym (given_found name given))
+  where
+    from : (o : Option Entry) → option_and_then (λ (a : MatchedArg). a.source) (option_map (λ e. e.1) o) ≡ option_and_then (λ (r : Row). r.source) (option_map row_of o)
+    from None = refl
+    from (Some e) = refl
+
+    go : (o : Option (Text × Text)) → find (λ g. bytes_eq g.0 name) given ≡ o
+        → option_and_then (λ (r : Row). r.source) (find (at name) (finished_rows given)) ≡ Some (source_by (is_some o))
+    go (Some g) e = ap (option_and_then (λ (r : Row). r.source)) (found_at name given (Some g) e)
+    go None e = ap (option_and_then (λ (r : Row). r.source)) (found_at name given None e) ∙ default_number name is
+
+-- a path is given if there is one
+pub path_is_given : (name : Text) (given : Given) (path : Option Text) → path ≡ path_of name given → is_some path ≡ is_given name given
+path_is_given name given path is = ap is_some is ∙ go (find (λ g. bytes_eq g.0 name) given) ∙ sym (given_found name given)
+  where
+    go : (o : Option (Text × Text)) → is_some (option_map (λ g. g.1) o) ≡ is_some o
+    go None = refl
+    go (Some g) = refl
+
+-- ---- the settings for a number of pairs
+
+-- settings with too many segments are out of range
+pub too_many_segments : (s : Settings) → is_in_limits 3 65536 s.segments ≡ false → first_bad_field s ≡ None → ⊥
+too_many_segments s over none = go (is_in_limits 4 64 s.fan) (is_in_limits 1 16 s.chain) (is_in_limits 1 255 s.max_key) (is_in_limits 0 1024 s.max_value)
+    (is_in_limits 256 1048576 s.seg_size) (is_in_limits 3 65536 s.segments) over none
+  where
+    go : (a b c d e f : Bool) → f ≡ false
+        → first_failed ((Fan, a) ∷ (Chain, b) ∷ (MaxKey, c) ∷ (MaxValue, d) ∷ (SegSize, e) ∷ (Segments, f) ∷ (SegSize, nat_le (longest_frame s) s.seg_size) ∷ []) ≡ None → ⊥
+    go false b c d e f over none = cc
+    go true false c d e f over none = cc
+    go true true false d e f over none = cc
+    go true true true false e f over none = cc
+    go true true true true false f over none = cc
+    go true true true true true false over none = cc
+    go true true true true true true over none = cc
 
 abbrev settings_with : ℕ → ℕ → ℕ → ℕ → ℕ → ℕ → Settings
 settings_with a b c d e f = record { fan = a; chain = b; max_key = c; max_value = d; seg_size = e; segments = f }

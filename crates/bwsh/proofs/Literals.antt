@@ -16,7 +16,7 @@ use Rattle.bwsh.specs.Words.{words_of}
 use Rattle.bwsh.specs.Line.{parse_line}
 use Rattle.bwsh.specs.Number.{number_in}
 use Rattle.bwsh.specs.declared.options.asked.Mode.{Mode}
-use Rattle.bwsh.specs.Options.{asked, options, refused, request_by}
+use Rattle.bwsh.specs.Options.{asked, mode_of, options, path_of, refused, request_by, settings_of}
 use Rattle.bwsh.specs.Shown.{shown_reply}
 use Rattle.bwsh.specs.BatchFile.{asked as ordered, first_bad, orders_of, pieces}
 use Rattle.bwsh.specs.BatchFile.Pending.{begun}
@@ -217,11 +217,12 @@ some_options = refl
 abbrev no_ways : Mode
 no_ways = record { version = false; explain = false; stat = false; clean_when_full = false; stream = false; tidy = 0; wait = 0; progress = false }
 
-request_options : request_by ((codes "create", codes "true") ∷ (codes "disk", codes "a b") ∷ (codes "fan", codes "8") ∷ [])
+request_options : let given = (codes "create", codes "true") ∷ (codes "disk", codes "a b") ∷ (codes "fan", codes "8") ∷ [] in
+    request_by given (settings_of given)
     ≡ record { settings = record { fan = 8; chain = 4; max_key = 64; max_value = 256; seg_size = 65536; segments = 64 }; crew = record { workers = 1; grain = 64 }; disk = Some (codes "a b"); create = true; copy_to = None; mode = no_ways }
 request_options = refl
 
-nothing_request : request_by []
+nothing_request : request_by [] (settings_of [])
     ≡ record { settings = record { fan = 16; chain = 4; max_key = 64; max_value = 256; seg_size = 65536; segments = 64 }; crew = record { workers = 1; grain = 64 }; disk = None; create = false; copy_to = None; mode = no_ways }
 nothing_request = refl
 
@@ -243,13 +244,13 @@ asked_ways : asked (codes "--version" ∷ codes "--fan" ∷ codes "8" ∷ codes 
     ≡ options ((codes "version", codes "true") ∷ (codes "fan", codes "8") ∷ (codes "explain", codes "true") ∷ [])
 asked_ways = refl
 
-request_version : (request_by ((codes "version", codes "true") ∷ [])).mode ≡ record no_ways { version = true }
+request_version : mode_of ((codes "version", codes "true") ∷ []) ≡ record no_ways { version = true }
 request_version = refl
 
-request_to_explain : (request_by ((codes "explain", codes "true") ∷ [])).mode ≡ record no_ways { explain = true }
+request_to_explain : mode_of ((codes "explain", codes "true") ∷ []) ≡ record no_ways { explain = true }
 request_to_explain = refl
 
-request_of_tidying : (request_by ((codes "tidy", codes "007") ∷ (codes "wait", codes "30") ∷ (codes "progress", codes "true") ∷ [])).mode
+request_of_tidying : mode_of ((codes "tidy", codes "007") ∷ (codes "wait", codes "30") ∷ (codes "progress", codes "true") ∷ [])
     ≡ record no_ways { tidy = 7; wait = 30; progress = true }
 request_of_tidying = refl
 
@@ -257,8 +258,22 @@ request_of_tidying = refl
 two_paths : asked (codes "--copy-to" ∷ codes "b" ∷ codes "--disk=a" ∷ []) ≡ options ((codes "copy-to", codes "b") ∷ (codes "disk", codes "a") ∷ [])
 two_paths = refl
 
-request_paths : (request_by ((codes "copy-to", codes "b") ∷ (codes "disk", codes "a") ∷ [])).copy_to ≡ Some (codes "b")
+request_paths : path_of (codes "copy-to") ((codes "copy-to", codes "b") ∷ (codes "disk", codes "a") ∷ []) ≡ Some (codes "b")
 request_paths = refl
+
+-- `--pairs` needs a new store or a copy, and excludes the options for which it chooses numbers
+some_pairs : asked (codes "--pairs=9" ∷ codes "--create" ∷ codes "--max-key=8" ∷ [])
+    ≡ options ((codes "pairs", codes "9") ∷ (codes "create", codes "true") ∷ (codes "max-key", codes "8") ∷ [])
+some_pairs = refl
+
+pairs_of_a_copy : asked (codes "--pairs=9" ∷ codes "--copy-to=b" ∷ []) ≡ options ((codes "pairs", codes "9") ∷ (codes "copy-to", codes "b") ∷ [])
+pairs_of_a_copy = refl
+
+idle_pairs : asked (codes "--pairs=9" ∷ codes "--disk=a" ∷ []) ≡ refused
+idle_pairs = refl
+
+pairs_with_a_size : asked (codes "--segments=9" ∷ codes "--create" ∷ codes "--pairs=9" ∷ []) ≡ refused
+pairs_with_a_size = refl
 
 a_flag_twice : asked (codes "--create" ∷ codes "--create" ∷ []) ≡ refused
 a_flag_twice = refl

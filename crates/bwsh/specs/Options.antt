@@ -1,5 +1,6 @@
 -- The meaning of the words of the command line.
-use Rattle.std.specs.Prelude.{◌≡◌, ◌⊎◌, ◌==◌, ◌||◌, ◌&&◌, ℕ, Bool, true, false, not, List, [], ◌∷◌, ◌++◌, Option, Some, None, if◌then◌else◌, unwrap_or, option_map, find, slice_get, map, string_bytes, String, codes, pos}
+use Rattle.std.specs.Prelude.{◌≡◌, ◌⊎◌, ◌==◌, ◌||◌, ◌&&◌, ◌+◌, ◌*◌, ◌≤◌, ℕ, Bool, true, false, not, List, [], ◌∷◌, ◌++◌, Option, Some, None, if◌then◌else◌, unwrap_or, option_map, find, slice_get, map, string_bytes, String, codes, pos}
+use Rattle.std.specs.Bool.{MatchBool}
 use Rattle.std.specs.List.{list_any}
 use Rattle.std.specs.Str.{bytes_eq, chars}
 use Rattle.std.specs.Str.Parse.{digits_value, without_leading_sign}
@@ -11,6 +12,8 @@ use Rattle.clap.specs.ValueTests.{is_signed_in}
 use Rattle.clap.specs.declared.error.kind.ErrorKind.{ErrorKind}
 use Rattle.clap.specs.declared.error.kind.ErrorKind.TheVariants.{InvalidValue, UnknownArgument, ValueValidation, TooManyValues, ArgumentConflict, DisplayHelp, OutOfMemory}
 use Rattle.keys.specs.Bytes.{Bytes}
+use Rattle.keys.specs.Limits.{first_bad_field}
+use Rattle.keys.specs.LogSize.{room_of_pairs}
 use Rattle.bwsh.specs.declared.options.asked.Options.{Options}
 use Rattle.bwsh.specs.declared.options.asked.Mode.{Mode}
 
@@ -25,7 +28,7 @@ texts = map string_bytes
 -- the options that take a number
 abbrev pub number_names : List Text
 number_names = codes "fan" ∷ codes "chain" ∷ codes "max-key" ∷ codes "max-value" ∷ codes "seg-size" ∷ codes "segments"
-    ∷ codes "workers" ∷ codes "grain" ∷ codes "tidy" ∷ codes "wait" ∷ []
+    ∷ codes "pairs" ∷ codes "workers" ∷ codes "grain" ∷ codes "tidy" ∷ codes "wait" ∷ []
 
 -- the option takes a number
 abbrev pub takes_number : Text → Bool
@@ -138,13 +141,35 @@ asked_from [] None given = options given
 asked_from [] (Some name) given = refused
 asked_from (word ∷ rest) waiting given = asked_by waiting (sort_of word) word rest given (asked_from rest)
 
--- the result of parsing the words of the command line
-abbrev pub asked : List Text → Asked
-asked words = asked_from words None []
-
 -- the number that was given for the option, or this default
 abbrev pub number_or : ℕ → Text → Given → ℕ
 number_or default name given = unwrap_or (option_map (λ g. number_of g.1) (find (λ g. bytes_eq g.0 name) given)) default
+
+-- the number of pairs for which settings are to be chosen, or 0 if they are not
+abbrev pub pairs_of : Given → ℕ
+pairs_of given = number_or 0 (codes "pairs") given
+
+-- an option is given for which `--pairs` chooses the number
+abbrev pub gives_size : Given → Bool
+gives_size given = is_given (codes "fan") given || is_given (codes "chain") given || is_given (codes "seg-size") given || is_given (codes "segments") given
+
+-- a number of pairs can be given: it is 0, or there is a new store or a copy, and no option for which `--pairs` chooses the number
+abbrev pub are_usable : ℕ → Bool → Bool → Bool
+are_usable pairs is_new has_size = pairs == 0 || is_new && not has_size
+
+-- the options can be given together
+abbrev pub go_together : Given → Bool
+go_together given = are_usable (pairs_of given) (is_given (codes "create") given || is_given (codes "copy-to") given) (gives_size given)
+
+-- given options that do not go together are refused
+abbrev pub together : Asked → Asked
+together (options given) = if go_together given then options given else refused
+together help = help
+together refused = refused
+
+-- the result of parsing the words of the command line
+abbrev pub asked : List Text → Asked
+asked words = together (asked_from words None [])
 
 -- the settings that were given
 abbrev pub settings_of : Given → Settings
@@ -156,6 +181,19 @@ settings_of given = record {
   seg_size = number_or 65536 (codes "seg-size") given;
   segments = number_or 64 (codes "segments") given;
 }
+
+-- settings for this many pairs, with keys and values of at most these lengths: if they are in range, the log has room for the pairs, and for three more
+-- segments
+abbrev pub AreForPairs : ℕ → ℕ → ℕ → Settings → Type 0
+AreForPairs pairs key value settings =
+    (settings.max_key ≡ key) × (settings.max_value ≡ value)
+    × (first_bad_field settings ≡ None → room_of_pairs pairs key value + 3 * settings.seg_size ≤ settings.segments * settings.seg_size)
+
+-- the settings that were given, or settings for the number of pairs that was given
+abbrev pub AreAsked : Given → Settings → Type 0
+AreAsked given settings =
+    MatchBool (pairs_of given == 0) (settings ≡ settings_of given)
+    (AreForPairs (pairs_of given) (settings_of given).max_key (settings_of given).max_value settings)
 
 -- the crew that was given
 abbrev pub crew_of : Given → Crew
@@ -188,10 +226,10 @@ pub record Request : Type 0 where
   pub copy_to : Option Text
   pub mode : Mode
 
--- the given options ask for this
-abbrev pub request_by : Given → Request
-request_by given = record {
-  settings = settings_of given;
+-- the given options ask for this, with these settings
+abbrev pub request_by : Given → Settings → Request
+request_by given settings = record {
+  settings = settings;
   crew = crew_of given;
   disk = path_of (codes "disk") given;
   create = is_given (codes "create") given;
@@ -201,7 +239,7 @@ request_by given = record {
 
 -- the words ask for these
 abbrev pub AsksFor : List Text → Request → Type 0
-AsksFor words request = (given : Given) × (asked words ≡ options given) × (request ≡ request_by given)
+AsksFor words request = (given : Given) × (asked words ≡ options given) × AreAsked given request.settings × (request ≡ request_by given request.settings)
 
 -- the options of the code, as text
 abbrev pub request_of : Options → Request

@@ -2,8 +2,8 @@
 use crate::line::Why;
 use crate::notes::{Notes, OrderLines, Source};
 use crate::session::SessionError;
-use engine::{file_remedy, meaning};
-use keys::Fault;
+use engine::{ExplainedFault, file_remedy, meaning};
+use keys::{Fault, Field};
 use std::alloc::{AllocError, Global};
 use std::io::ErrorKind;
 use std::{fmt, io, str};
@@ -17,18 +17,25 @@ fn file_advice(has_copy: bool, reason: &io::Error) -> &'static str {
         ErrorKind::WouldBlock if has_copy => {
             "Another program has locked the file, or it is the file of --copy-to too."
         }
+        ErrorKind::WouldBlock => {
+            "Another program has locked the file. Wait until it ends, or use --wait."
+        }
         _ => file_remedy(reason),
     }
 }
 
-fn copy_advice(reason: &io::Error) -> &'static str {
+// `is_own` says whether the copy was to replace the file of the store.
+fn copy_advice(is_own: bool, reason: &io::Error) -> &'static str {
     match reason.kind() {
+        ErrorKind::WouldBlock if is_own => "This is the file of the store itself.",
         ErrorKind::AlreadyExists => {
             "The file was left as it was. A copy needs a path without a file, or an empty or unfinished file."
         }
         ErrorKind::NotFound => "The directory of a copy has to exist.",
         ErrorKind::PermissionDenied => "A copy needs permission to write its file.",
-        ErrorKind::WouldBlock => "Another program has locked the file.",
+        ErrorKind::WouldBlock => {
+            "Another program has locked the file, or it is the file of the store itself."
+        }
         ErrorKind::IsADirectory => "A copy has to be a file.",
         _ => file_remedy(reason),
     }
@@ -47,9 +54,14 @@ fn copy_rule(fault: &Fault) -> &'static str {
     }
 }
 
-fn order_rule(fault: &Fault) -> &'static str {
+// `has_cleaned` says whether the session cleans a full log by itself.
+fn order_rule(has_cleaned: bool, fault: &Fault) -> &'static str {
     match fault {
         Fault::NoMemory => "There was not enough memory to run it. Smaller batches need less.",
+        Fault::Full if has_cleaned => {
+            "The log has no room for this. With --stream, .tidy may make room. If it does not, copy the store with .copy or \
+            --copy-to to a file with more --segments."
+        }
         Fault::Full => {
             "The log has no room for this. Lines clean or --clean-when-full may make room. If they do not, copy the store \
             with .copy or --copy-to to a file with more --segments."
@@ -58,9 +70,14 @@ fn order_rule(fault: &Fault) -> &'static str {
     }
 }
 
-fn line_rule(why: Why) -> &'static str {
+fn line_rule(is_stream: bool, why: Why) -> &'static str {
     match why {
-        Why::UnknownCommand => "A line begins with a command that --help lists, or with #.",
+        Why::UnknownCommand if is_stream => {
+            "A line begins with a command that --help lists, or with #."
+        }
+        Why::UnknownCommand => {
+            "A line begins with a command that --help lists, or with #. Lines with a dot need --stream."
+        }
         Why::WordCount => "--help lists the words of each command. In a word, %20 is a space.",
         Why::BadToken => "Words are printable ASCII, and two hexadecimal digits follow each %.",
         Why::BadNumber => "Numbers go from 0 to 4294967295.",
@@ -92,7 +109,12 @@ fn explain_call(
     format!(in alloc; "{name}: {reason}.{}{}\n", Sentence(advice), Sentence(done))
 }
 
-fn explain_order(alloc: Global, lines: &OrderLines, fault: &Fault) -> Result<String, AllocError> {
+fn explain_order(
+    alloc: Global,
+    has_cleaned: bool,
+    lines: &OrderLines,
+    fault: &Fault,
+) -> Result<String, AllocError> {
     let end = lines.end;
     let (place, what) = match fault {
         Fault::KeyTooLong(place) => (*place, "a key that is longer than max-key"),
@@ -102,7 +124,7 @@ fn explain_order(alloc: Global, lines: &OrderLines, fault: &Fault) -> Result<Str
                 "The batch up to line {end} was not run. It has more than 65535 commands. Divide it by lines go.\n"
             );
         }
-        _ => return format!(in alloc; "line {end}: {}\n", order_rule(fault)),
+        _ => return format!(in alloc; "line {end}: {}\n", order_rule(has_cleaned, fault)),
     };
     match lines.line_of_command(place) {
         Some(line) => format!(in alloc;
@@ -132,7 +154,9 @@ impl<'a> Notes<'a> {
     ) -> Result<String, AllocError> {
         match (error, self.failed.get()) {
             (SessionError::Device, Some((_, reason))) => {
-                explain_call(self.alloc, path, &reason, copy_advice(&reason), done)
+                let is_own = self.asked.disk.as_deref() == Some(path);
+                let advice = copy_advice(is_own, &reason);
+                explain_call(self.alloc, path, &reason, advice, done)
             }
             (SessionError::Fault(fault), _) => {
                 format!(in self.alloc; "{path}: {} {done}\n", copy_rule(fault))
@@ -157,6 +181,9 @@ impl<'a> Notes<'a> {
 
     fn explain_start(&self, fault: &Fault) -> Result<String, AllocError> {
         match fault {
+            Fault::BadSettings(Field::Segments) if self.asked.pairs > 0 => format!(in self.alloc;
+                "Nothing was run. These --pairs do not fit into the largest log, of 65536 segments of 1 MiB.\n"
+            ),
             Fault::BadSettings(field) => format!(in self.alloc;
                 "Nothing was run. --help has the range of {field}. A segment has to hold a full page of the longest keys and values.\n"
             ),
@@ -164,11 +191,12 @@ impl<'a> Notes<'a> {
                 "Nothing was run. --workers takes 1 to 64, and --grain takes 1 to 65535.\n"
             ),
             Fault::NoMemory => format!(in self.alloc; "Nothing was run. {}\n", meaning(fault)),
-            _ => format!(in self.alloc;
+            Fault::NotAStore => format!(in self.alloc;
                 "{}: {} With --create a new store replaces what it holds.\n",
                 self.store_path(),
-                meaning(fault)
+                ExplainedFault(fault)
             ),
+            _ => format!(in self.alloc; "{}: {}\n", self.store_path(), ExplainedFault(fault)),
         }
     }
 
@@ -179,7 +207,8 @@ impl<'a> Notes<'a> {
         if is_order_fault(fault) {
             if let Ok(lines) = self.lines.try_borrow() {
                 if lines.end > 0 {
-                    return explain_order(self.alloc, &*lines, fault);
+                    let has_cleaned = self.asked.mode.clean_when_full;
+                    return explain_order(self.alloc, has_cleaned, &*lines, fault);
                 }
             }
         }
@@ -215,12 +244,13 @@ impl<'a> Notes<'a> {
         match error {
             SessionError::Words(_) => Ok(String::new(self.alloc)),
             SessionError::Bad { line: _, why } => {
-                let before = if self.asked.mode.stream {
+                let is_stream = self.asked.mode.stream;
+                let before = if is_stream {
                     "The batch was not run."
                 } else {
                     "Nothing was run."
                 };
-                format!(in self.alloc; "{before} {}\n", line_rule(*why))
+                format!(in self.alloc; "{before} {}\n", line_rule(is_stream, *why))
             }
             SessionError::Fault(fault) => self.explain_fault(fault),
             SessionError::Device => self.explain_failure(),
@@ -235,7 +265,7 @@ impl<'a> Notes<'a> {
     }
 
     fn add_idle_options(&self, text: &mut String) -> Result<(), AllocError> {
-        if self.asked.create && self.asked.disk.is_none() {
+        if self.asked.create && self.asked.disk.is_none() && self.asked.pairs == 0 {
             text.push_str("--create has no effect without --disk.\n")?;
         }
         if self.has_idle_settings() {

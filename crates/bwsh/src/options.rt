@@ -1,14 +1,17 @@
 //! The command line: the settings of a new store, the crew, the files and the mode of the session.
-ghost use Rattle.std.specs.Prelude.{◌≡◌, IfOk, IfErr, Some, false, map, option_map, string_bytes, true};
+ghost use Rattle.std.specs.Prelude.{◌≡◌, ◌⊎◌, IfOk, IfErr, Some, codes, false, map, option_map, string_bytes, true};
 ghost use Rattle.std.specs.List.{fold};
 ghost use Rattle.clap.specs.Words.{FailsBy, app_of, fault_of, found_of, kind_of, matches_of, one_of, rows_of, rule_of, with_rule, without_minus};
-ghost use Rattle.bwsh.specs.Options.{AsksFor, Given, IsRightKind, Text, crew_of, is_given, is_number, number_of, path_of, settings_of, takes_nothing, takes_path, texts, request_of, mode_of};
+ghost use Rattle.clap.specs.declared.error.kind.ErrorKind.TheVariants.{ArgumentConflict, OutOfMemory};
+ghost use Rattle.bwsh.specs.Options.{AreAsked, AreForPairs, AsksFor, Given, IsRightKind, Text, are_usable, crew_of, gives_size, is_given, is_number, number_of, pairs_of, path_of, settings_of, takes_nothing, takes_number, takes_path, texts, request_of, mode_of};
 ghost use Rattle.bwsh.specs.CommandLine.{AreGivable, bwsh, finished_rows, flag_rule, number_rule, text_rule, with_work};
 
 mod asked;
 mod help_text;
 
 pub use asked::{Mode, Options};
+use clap::error::ErrorKind;
+use clap::parser::ValueSource;
 use clap::{Arg, ArgAction, ArgMatches, Command, Error, value_parser};
 use engine::Crew;
 pub use help_text::STREAM_LINES;
@@ -23,6 +26,7 @@ const SETTINGS: &[(&str, &str, &str)] = &[
     ("max-value", "256", help_text::MAX_VALUE),
     ("seg-size", "65536", help_text::SEG_SIZE),
     ("segments", "64", help_text::SEGMENTS),
+    ("pairs", "0", help_text::PAIRS),
 ];
 
 const WORK: &[(&str, &str, &str)] = &[
@@ -152,6 +156,33 @@ fn settings(matches: &ArgMatches<'_>) -> Settings
     }
 }
 
+// Returns the settings for this many pairs, with the lengths of `given`. If there are none, returns
+// settings that are out of range in the same field.
+fn settings_for(pairs: u32, given: Settings) -> Settings
+    ensures { AreForPairs pairs given.max_key given.max_value result }
+{
+    match Settings::for_pairs(pairs, given.max_key, given.max_value) {
+        Ok(settings) => settings,
+        Err(_) => Settings {
+            segments: u32::MAX,
+            ..given
+        },
+    }
+}
+
+fn asked_settings(pairs: u32, matches: &ArgMatches<'_>) -> Settings
+    ensures { (given : Given) → AreGivable given
+        → rows_of (found_of matches.now) ≡ finished_rows given → pairs ≡ pairs_of given
+        → AreAsked given result }
+{
+    let given = settings(matches);
+    if pairs == 0 {
+        given
+    } else {
+        settings_for(pairs, given)
+    }
+}
+
 fn crew(matches: &ArgMatches<'_>) -> Crew
     ensures { (given : Given) → AreGivable given
         → rows_of (found_of matches.now) ≡ finished_rows given → result ≡ crew_of given }
@@ -184,6 +215,43 @@ fn flag_at(matches: &ArgMatches<'_>, name: &str) -> bool
     matches.get_flag(name)
 }
 
+// Returns whether an option that takes a number was given. A default does not count.
+fn was_given(matches: &ArgMatches<'_>, name: &str) -> bool
+    ensures { takes_number name.now ≡ true → (given : Given)
+        → rows_of (found_of matches.now) ≡ finished_rows given → result ≡ is_given name.now given }
+{
+    matches!(matches.value_source(name), Some(ValueSource::CommandLine))
+}
+
+// Returns whether an option was given for which `--pairs` chooses the number.
+fn has_size(matches: &ArgMatches<'_>) -> bool
+    ensures { (given : Given) → rows_of (found_of matches.now) ≡ finished_rows given
+        → result ≡ gives_size given }
+{
+    was_given(matches, "fan")
+        || was_given(matches, "chain")
+        || was_given(matches, "seg-size")
+        || was_given(matches, "segments")
+}
+
+// Refuses `--pairs` without a new store or a copy, and with an option for which it chooses the
+// number.
+fn check_pairs(alloc: Global, pairs: u32, is_new: bool, has_size: bool) -> Result<(), Error>
+    ensures ok { IfOk result (λ _. are_usable pairs is_new has_size ≡ true) }
+    ensures err { IfErr result (λ e. (kind_of e ≡ OutOfMemory)
+        ⊎ ((kind_of e ≡ ArgumentConflict) × (are_usable pairs is_new has_size ≡ false))) }
+{
+    if pairs == 0 || is_new && !has_size {
+        return Ok(());
+    }
+    let reason = if is_new {
+        "--pairs chooses --fan, --chain, --seg-size and --segments: leave these out"
+    } else {
+        "--pairs needs --create or --copy-to"
+    };
+    Err(command(alloc)?.error(ErrorKind::ArgumentConflict, reason)?)
+}
+
 fn mode(matches: &ArgMatches<'_>) -> Mode
     ensures { (given : Given) → AreGivable given
         → rows_of (found_of matches.now) ≡ finished_rows given → result ≡ mode_of given }
@@ -211,11 +279,20 @@ pub fn options(alloc: Global, words: &[String]) -> Result<Options, Error>
     let matches = parse(alloc, words)?;
     let disk = path_at(alloc, &matches, "disk")?;
     let copy_to = path_at(alloc, &matches, "copy-to")?;
+    let create = flag_at(&matches, "create");
+    let pairs = number_at(&matches, "pairs");
+    check_pairs(
+        alloc,
+        pairs,
+        create || copy_to.is_some(),
+        has_size(&matches),
+    )?;
     Ok(Options {
-        settings: settings(&matches),
+        settings: asked_settings(pairs, &matches),
+        pairs,
         crew: crew(&matches),
         disk,
-        create: flag_at(&matches, "create"),
+        create,
         copy_to,
         mode: mode(&matches),
     })

@@ -7,6 +7,8 @@ use keys::Settings;
 pub struct Options {
     /// The settings of a new store or of the copy.
     pub settings: Settings,
+    /// The number of pairs for which `settings` were chosen, or 0 if they were given.
+    pub pairs: u32,
     /// Workers and grain, which do not affect the answers.
     pub crew: Crew,
     /// The file of the store, or `None` for a store in memory.

@@ -16,11 +16,15 @@ pub const SEG_SIZE: &str = "Bytes of a log segment, 256 to 1048576; must hold a 
 pub const SEGMENTS: &str =
     "Segments of the log, 3 to 65536; an existing store keeps these six settings";
 
+pub const PAIRS: &str =
+    "Pairs for which --create or --copy-to chooses fan, chain, seg-size and segments";
+
 pub const WORKERS: &str = "Threads that work on a batch, 1 to 64";
 
 pub const GRAIN: &str = "Pages that a thread claims at a time, 1 to 65535";
 
-pub const TIDY: &str = "Pages with few pairs to merge before each flush, at most";
+pub const TIDY: &str =
+    "Pages with few pairs to merge before each flush, at most; makes flushes larger";
 
 pub const WAIT: &str = "Seconds to wait while another program has locked a file";
 

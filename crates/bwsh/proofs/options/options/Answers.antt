@@ -1,16 +1,14 @@
-use Rattle.std.proofs.Common.{refl}
+use Rattle.std.proofs.Common.{◌≡◌, ◌||◌, Bool, ap, ap₂, refl, sym}
 use Rattle.clap.specs.Words.{kind_of}
-use Rattle.bwsh.specs.Options.{IsRightKind, texts}
-use Rattle.bwsh.proofs.AskedLemmas.{options_are_asked, error_is_right, handed_on}
+use Rattle.bwsh.specs.Options.{IsRightKind, are_usable, texts}
+use Rattle.bwsh.proofs.AskedLemmas.{asked_by_parsed, options_are_asked, error_is_right, handed_on, pairs_error_is_right}
 use Rattle.bwsh.proofs.options.options.Goals as goal
 
 pub returns : goal.returns
 returns c =
     let w = options_are_asked _ _ c.in_ok-matches.ensures.err c.in_ok-matches.ensures.ok in
-    let disk = c.in_ok-disk.ensures refl w.0 w.2 in
-    let copy = c.in_ok-copy_to.ensures refl w.0 w.2 in
     record {
-      ok = (w.0, w.1, rw (c.settings.ensures w.0 w.3 w.2, c.crew.ensures w.0 w.3 w.2, disk, copy, c.flag_at.ensures refl w.0 w.3 w.2, c.mode.ensures w.0 w.3 w.2) refl);
+      ok = tt;
       err = tt;
     }
 
