@@ -347,7 +347,7 @@ def refuse_before_copy(programs: Programs) -> Outcome:
                 wrong = wrong or differs(run([*command, *stream, "--grain=0"], PUTS), 4, b"", b"fault 5 BadCrew\n")
                 wrong = wrong or differs(run([*command, *stream, "--fan=65"], PUTS), 4, b"", b"fault 1 BadSettings fan\n")
                 wrong = wrong or differs(run([*command, *stream], PUTS, Limits(redirections=">&-")), 4, b"", DEVICE)
-            wrong = wrong or differs(run([*command, "--version"], PUTS), 0, b"bwsh 0.1.0\n")
+            wrong = wrong or differs(run([*command, "--version"], PUTS), 0, b"bwsh 0.2.0 bytes 1\n")
         wrong = wrong or (None if store.read_bytes() == before else "the store has other bytes")
         return Outcome(wrong or ("a file was made" if copy.exists() else None))
 

@@ -60,7 +60,7 @@ def print_nothing(programs: Programs) -> Outcome:
     """Short sessions in memory print no progress, but opening a missing file does."""
     words: Command = [programs.store, "--progress"]
     wrong = differs(run(words, b"put a 1\n"), 0, b"new\n")
-    wrong = wrong or differs(run([*words, "--version"]), 0, b"bwsh 0.1.0\n")
+    wrong = wrong or differs(run([*words, "--version"]), 0, b"bwsh 0.2.0 bytes 1\n")
     help_run, refused = run([*words, "--help"]), run([*words, "--flan"])
     if help_run.status or help_run.err or (refused.status, refused.out) != (2, b"") or START in refused.err:
         wrong = wrong or f"help: {help_run.describe()}; refused words: {refused.describe()}"

@@ -87,7 +87,7 @@ unread_text = codes "error: a word of the command line is no text" ++ 10 ∷ []
 
 -- the text that is printed for the version, with its line feed
 abbrev pub version_text : Bytes
-version_text = codes "bwsh 0.1.0" ++ 10 ∷ []
+version_text = codes "bwsh 0.2.0 bytes 1" ++ 10 ∷ []
 
 -- a store, and the bytes of its disk
 abbrev pub Stored : Type 0

@@ -38,7 +38,7 @@ use std::thread::Threads;
 use std::time::Clock;
 use std::{fmt, io};
 
-const VERSION: &[u8] = b"bwsh 0.1.0\n";
+const VERSION: &[u8] = b"bwsh 0.2.0 bytes 1\n";
 
 const UNREAD: &[u8] = b"error: a word of the command line is no text\n";
 
