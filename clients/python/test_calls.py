@@ -2,6 +2,7 @@
 
 from __future__ import annotations
 
+import errno
 import os
 import pickle
 import random
@@ -291,7 +292,7 @@ class Faults(StoreTest):
         error = caught.exception
         self.assertEqual((error.number, error.name, error.place), (2, "KeyTooLong", 1))
         self.assertEqual(error.fault, "fault 2 KeyTooLong 1")
-        self.assertIn("a key that is longer than max-key", error.why)
+        self.assertEqual(error.why, "Shorten the key, or copy the store with copy_to(path, max_key=N).")
         self.assertNotIn("lost", str(error))
 
     def test_a_refusal_loses_nothing(self) -> None:
@@ -303,10 +304,11 @@ class Faults(StoreTest):
                 store.batch([Put(b"c", b"3")] * number + [Unchecked(Put(b"too long", b"4")), Put(b"d", b"5")])
             error = caught.exception
             self.assertEqual((error.number, error.place, error.unflushed, store.unflushed), (2, number, 0, 1))
-            self.assertEqual(error.why.count("max-key"), 1)  # the explanation of this refusal alone
+            self.assertEqual(error.why.count("max_key"), 1)  # the explanation of this refusal alone
         with self.assertRaises(Refused) as caught:
             store.clean()
         self.assertEqual((caught.exception.name, caught.exception.place), ("NothingToClean", None))
+        self.assertEqual(caught.exception.why, "The log is in one segment, so there is nothing to clean.")
         self.assertEqual(store.scan(), [(b"a", b"1")])
         store.flush()
         self.assertEqual((store.pid, store.unflushed), (pid, 0))
@@ -376,24 +378,45 @@ class Faults(StoreTest):
         with self.assertRaises(Refused) as caught:
             store.batch([ManyGets(65_536)])
         self.assertEqual(caught.exception.number, 4)
-        self.assertIn("65535", caught.exception.why)
+        self.assertEqual(
+            caught.exception.why, "Divide the batch or its wipes. More than 65535 commands do it or undo it."
+        )
 
     def test_a_file_that_holds_no_store_is_refused(self) -> None:
-        with self.assertRaises(Refused) as caught:
+        with self.assertRaises(FileNotFoundError) as missing:
             self.store()
-        self.assertEqual(caught.exception.number, 9)
-        self.assertIn("No such file", caught.exception.why)
+        self.assertEqual(missing.exception.errno, errno.ENOENT)
+        assert isinstance(missing.exception, Refused)
+        self.assertEqual(missing.exception.number, 9)
+        why = f'{self.path}: No such file or directory (os error 2). Pass create="missing" to create a store there.'
+        self.assertEqual(missing.exception.why, why)
         self.path.write_bytes(bytes(5_000_000))
         with self.assertRaises(Refused) as caught:
             self.store()
         self.assertEqual(caught.exception.number, 12)
+        advice = "Check the path. The file holds no store, or a part of one. With create=True a new store replaces what it holds."
+        self.assertEqual(caught.exception.why, f"{self.path}: {advice}")
+
+    def test_a_damaged_store_is_to_be_restored(self) -> None:
+        with self.store(create=True, **SMALL, segments=8) as store:
+            store.put(b"a", b"1")
+        damaged = bytearray(self.path.read_bytes())
+        damaged[512] ^= 1  # the header of the first segment
+        self.path.write_bytes(damaged)
+        with self.assertRaises(Refused) as caught:
+            self.store()
+        self.assertEqual(caught.exception.number, 14)
+        self.assertEqual(caught.exception.why, f"{self.path}: Restore a backup. The file is damaged: 14 BadSegment 0.")
 
     def test_a_file_that_another_store_holds_is_refused(self) -> None:
         with self.store(create=True) as first:
-            with self.assertRaises(Refused) as caught:
+            with self.assertRaises(BlockingIOError) as caught:
                 self.store()
+            self.assertEqual(caught.exception.errno, errno.EWOULDBLOCK)
+            assert isinstance(caught.exception, Refused)
             self.assertEqual(caught.exception.number, 9)
-            self.assertIn("Another program", caught.exception.why)
+            advice = "Another program has locked the file. Wait until it ends, or pass wait=SECONDS."
+            self.assertTrue(caught.exception.why.endswith(f". {advice}"), caught.exception.why)
             self.assertIsNone(first.get(b"a"))
         self.assertIsNone(self.store().get(b"a"))
 
@@ -403,7 +426,14 @@ class Faults(StoreTest):
             with self.assertRaises(Refused) as caught:
                 self.store(create=create, fan=3)
             self.assertEqual(caught.exception.fault, "fault 1 BadSettings fan")
+            self.assertEqual(caught.exception.why, "fan must be from 4 to 64.")
             self.assertFalse(self.path.exists())
+            with self.assertRaises(Refused) as caught:
+                self.store(create=create, pairs=(1 << 32) - 1)
+            self.assertEqual(caught.exception.why, "segments must be from 3 to 65536; fewer pairs need fewer.")
+        with self.assertRaises(Refused) as caught:
+            self.store(create=True, workers=65)
+        self.assertEqual(caught.exception.why, "workers must be from 1 to 64, and grain from 1 to 65535.")
         with self.assertRaises(TypeError):
             self.store(create=True, flan=8)
         with self.assertRaisesRegex(StoreError, "status 2"):
@@ -417,6 +447,8 @@ class Faults(StoreTest):
         with self.assertRaises(Refused) as caught:
             store.flush()
         self.assertEqual(caught.exception.number, 10)
+        why = "Copy the store with copy_to(path, segments=N) into a larger log. The log has no room for this."
+        self.assertEqual(caught.exception.why, why)
         store.reopen()
         self.assertEqual(store.scan(), [(b"a", b"1")])
 
@@ -454,12 +486,29 @@ class Faults(StoreTest):
         self.assertEqual(os.waitstatus_to_exitcode(os.waitpid(child, 0)[1]), 0)
 
     def test_a_program_that_isn_t_there_is_missed_at_once(self) -> None:
-        with self.assertRaises(FileNotFoundError):
-            Store(self.path, program=self.folder / "none")
+        ways: list[bool | Literal["missing"]] = [False, "missing"]
+        for create in ways:
+            with self.assertRaisesRegex(FileNotFoundError, "no such program; pass .*program=PATH.*none") as missing:
+                Store(self.path, create=create, program=self.folder / "none")
+            self.assertEqual(missing.exception.errno, errno.ENOENT)
 
 
 class Checks(StoreTest):
     """Tests that wrong commands are refused before anything is sent."""
+
+    def test_what_is_no_list_of_commands_is_refused(self) -> None:
+        store = self.store(create=True)
+        wrong: list[tuple[Callable[[], object], str]] = [
+            (lambda: store.batch(["put a b"]), "^command 0: a command is an object such as Put\\(key, value\\), not str$"),  # type: ignore[list-item]
+            (lambda: store.batch(Put(b"a", b"1")), "^a batch is a list of commands, not Put$"),  # type: ignore[call-overload]
+            (lambda: store.batches([Put(b"a", b"1")]), "^a batch is a list of commands, not Put$"),  # type: ignore[list-item]
+            (lambda: store.batches(Put(b"a", b"1")), "^batches are a list of lists, not Put$"),  # type: ignore[arg-type]
+            (lambda: store.batches([[Get(b"a")], [7]]), "^batch 1, command 0: a command is .*, not int$"),  # type: ignore[list-item]
+        ]
+        for call, why in wrong:
+            with self.assertRaisesRegex(TypeError, why):
+                call()
+        self.assertEqual(store.scan(), [])
 
     def test_lengths_are_checked_before_anything_is_sent(self) -> None:
         store = self.store(create=True, max_key=4, max_value=3)
@@ -518,7 +567,7 @@ class Checks(StoreTest):
 
     def test_a_new_store_has_the_limits_of_the_program(self) -> None:
         store = self.store(create=True)
-        self.assertEqual(store.settings, Settings(16, 4, 64, 256, 65_536, 4_096))
+        self.assertEqual(store.settings, Settings(32, 16, 64, 256, 1_048_576, 272))
         self.assertTrue(store.put(b"k" * 64, b"v" * 256))
         with self.assertRaises(ValueError):
             store.put(b"k" * 65, b"")
@@ -557,7 +606,7 @@ class Types(StoreTest):
         self.assertEqual((is_new, value, [key for key, _ in rows]), (False, b"2", [b"a"]))
         ((count,), (value,)) = store.batches([[Wipe(b"b")], [Get(b"a")]])
         self.assertEqual((count + 1, value.decode()), (1, "2"))
-        with self.assertRaises(AttributeError):
+        with self.assertRaises(TypeError):
             store.batch([b"a"])  # type: ignore[list-item]
 
 

@@ -212,17 +212,30 @@ class Opening(StoreTest):
     def open_and_close(self, path: Path, create: bool | Literal["missing"]) -> None:
         Store(path, create=create, program=PROGRAM).close()
 
-    def test_a_new_store_has_4096_segments_unless_told_otherwise(self) -> None:
+    def test_a_new_store_has_room_for_its_pairs_unless_told_otherwise(self) -> None:
+        # 40,000 pairs of 64 and 256 bytes: 325 bytes each, and 156 for each of 2,501 leaves, all times 21, and four more segments.
+        default = Settings(32, 16, 64, 256, 1 << 20, 21 * (40_000 * 325 + 2_501 * 156) // (1 << 20) + 4)
+        # 1,000 pairs of 16 and 100 bytes: 121 each, and 60 for each of 63, all times 21, in sixteen and four segments.
+        sized = Settings(32, 16, 16, 100, 21 * (1_000 * 121 + 63 * 60) // 16, 20)
+        wanted: list[tuple[dict[str, int], Settings]] = [
+            ({}, default),
+            ({"workers": 2, "tidy": 8}, default),
+            ({"pairs": 1_000, "max_key": 16, "max_value": 100}, sized),
+            ({"segments": 8}, Settings(32, 16, 64, 256, 65_536, 8)),
+            ({"fan": 8}, Settings(8, 16, 64, 256, 65_536, 4_096)),
+        ]
         ways: list[Literal[True, "missing"]] = [True, "missing"]
         for create in ways:
-            with self.store(create=create) as store:
-                self.assertEqual(store.stat().segments, 4_096)
-            self.path.unlink()
-            with self.store(create=create, segments=8) as store:
-                self.assertEqual(store.stat().segments, 8)
-            with self.store() as store:
-                self.assertEqual(store.stat().segments, 8)
-            self.path.unlink()
+            for settings, right in wanted:
+                with self.store(create=create, **settings) as store:
+                    self.assertEqual(store.settings, right)
+                with self.store(create=False, **settings) as store:
+                    self.assertEqual(store.settings, right)
+                self.path.unlink()
+        for name in ("fan", "chain", "seg_size", "segments"):
+            with self.assertRaisesRegex(TypeError, f"^pairs chooses fan, chain, seg_size, segments: leave {name} out$"):
+                self.store(create=True, pairs=9, **{name: 16})
+        self.assertFalse(self.path.exists())
 
     def test_a_lock_is_waited_for(self) -> None:
         first = self.store(create=True)
@@ -355,6 +368,15 @@ class Copies(StoreTest):
         self.assertEqual(self.copied().settings, Settings(16, 4, 16, 100, 8_192, 5))
         self.assertEqual(self.copied_version(), 0)
 
+    def test_a_copy_has_room_for_its_pairs(self) -> None:
+        store = self.store(create=True, **SMALL, segments=64)
+        store.put(b"a", b"1")
+        store.copy_to(self.copy, pairs=1_000)
+        copy = self.copied()
+        self.assertEqual(copy.scan(), [(b"a", b"1")])
+        # 1,000 pairs of 16 and 64 bytes: 85 each, and 60 for each of 63, all times 21, in sixteen and four segments.
+        self.assertEqual(copy.settings, Settings(32, 16, 16, 64, 21 * (1_000 * 85 + 63 * 60) // 16, 20))
+
     def copied_version(self) -> int:
         """Returns the version of the newest slot of a copy with one flush, by docs/FORMAT.md."""
         return int.from_bytes(self.copy.read_bytes()[128 + 44 : 128 + 48], "big")
@@ -415,8 +437,10 @@ class Copies(StoreTest):
             with self.assertRaisesRegex(ValueError, "to its own file$"):
                 store.copy_to(path)
         for name in ("workers", "flan"):
-            with self.assertRaisesRegex(TypeError, f"unknown setting {name}; the settings are fan, .*, segments$"):
+            with self.assertRaisesRegex(TypeError, f"unknown setting {name}; the settings are fan, .*, segments, pairs$"):
                 store.copy_to(self.copy, **{name: 2})
+        with self.assertRaisesRegex(TypeError, "^pairs chooses .*: leave segments out$"):
+            store.copy_to(self.copy, pairs=9, segments=9)
         self.assertEqual((store.unflushed, store.pid), (1, pid))
 
     def test_a_closed_store_is_not_copied(self) -> None:

@@ -10,7 +10,7 @@ A batch is executed completely or not at all. The module runs the program `bwsh`
 """
 
 from .commands import MOST_ROWS, Add, Command, Del, Get, Put, Reply, Row, Scan, Wipe, prefix_range
-from .errors import Killed, Lost, Refused, StoreError
+from .errors import Killed, LockedFile, Lost, MissingFile, Refused, StoreError
 from .header import Settings, Stat
 from .program import PATIENCE
 from .store import Report, Store
@@ -23,7 +23,9 @@ __all__ = [
     "Del",
     "Get",
     "Killed",
+    "LockedFile",
     "Lost",
+    "MissingFile",
     "Put",
     "Refused",
     "Reply",
@@ -38,5 +40,5 @@ __all__ = [
     "prefix_range",
 ]
 
-for _error in (StoreError, Refused, Killed, Lost):
+for _error in (StoreError, Refused, MissingFile, LockedFile, Killed, Lost):
     _error.__module__ = __name__  # as tracebacks name them

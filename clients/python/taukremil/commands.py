@@ -15,6 +15,7 @@ MOST_COMMANDS = 65_535  # of a batch
 
 Row = tuple[bytes, bytes]
 Reply = Union[bytes, None, int, list[Row]]  # bool is a subclass of int
+T = TypeVar("T")
 T_co = TypeVar("T_co", covariant=True)
 NextLine = Callable[[], bytes]  # returns a line of the answer without its line feed
 
@@ -231,9 +232,22 @@ def may_write(command: object) -> bool:
     return not isinstance(command, (Get, Scan))
 
 
+def listed(commands: Iterable[T], what: str) -> list[T]:
+    """Returns the list of `commands`. If there is none, raises TypeError, which says `what` is wanted."""
+    try:
+        iterator = iter(commands)
+    except TypeError:
+        raise TypeError(f"{what}, not {type(commands).__name__}") from None
+    return list(iterator)
+
+
 def encode(command: Command[object], settings: Settings) -> bytes:
     checked_text: Callable[[Settings], bytes] | None = getattr(command, "checked_text", None)
-    return checked_text(settings) if checked_text else command.text()
+    if checked_text:
+        return checked_text(settings)
+    if not hasattr(command, "text"):
+        raise TypeError(f"a command is an object such as Put(key, value), not {type(command).__name__}")
+    return command.text()
 
 
 def _placed(error: Exception, place: str) -> Exception:

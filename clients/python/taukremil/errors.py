@@ -2,13 +2,17 @@
 
 from __future__ import annotations
 
+import errno
 import signal
+
+from .advice import translate
 
 KEY_TOO_LONG, VALUE_TOO_LONG = 2, 3  # the faults of one command
 DEVICE = 9  # the fault after which a flush may be durable
 # In the program's explanations of fault 9.
 LOCKED = "Another program has locked the file"
 EXISTS = "entity already exists"
+MISSING = "No such file or directory (os error 2)"
 IF_NOT_FLUSHING = ", unless a flush was in progress"
 
 
@@ -63,6 +67,18 @@ class Refused(StoreError):
         return self.number == DEVICE and EXISTS in self.why
 
 
+class MissingFile(Refused, FileNotFoundError):
+    """Reports that the file of a store, or the folder of a copy, is missing."""
+
+    errno = errno.ENOENT
+
+
+class LockedFile(Refused, BlockingIOError):
+    """Reports that another program has locked the file."""
+
+    errno = errno.EWOULDBLOCK
+
+
 class Killed(StoreError):
     """Reports that the signal with the number `signal` ended the program.
 
@@ -106,7 +122,14 @@ class Lost(StoreError):
 
 def refusal_of(line: str, why: str) -> StoreError:
     """Returns the exception for a refusal after which the program continues."""
-    return Refused(line, why) if line.startswith("fault ") else StoreError(f"{line}: {why}" if why else line)
+    return refused(line, why) if line.startswith("fault ") else StoreError(f"{line}: {why}" if why else line)
+
+
+def refused(fault: str, why: str, unflushed: int = 0) -> Refused:
+    """Returns the exception for the program's line `fault` and its explanation."""
+    is_of_file = fault.startswith(f"fault {DEVICE} ")
+    kind = MissingFile if is_of_file and MISSING in why else LockedFile if is_of_file and LOCKED in why else Refused
+    return kind(fault, translate(fault, why), unflushed)
 
 
 def error_of(status: int, said: list[str], unflushed: int) -> StoreError:
@@ -114,6 +137,6 @@ def error_of(status: int, said: list[str], unflushed: int) -> StoreError:
     if status < 0:
         return Killed(-status, unflushed)
     if status in (0, 4) and said and said[0].startswith("fault "):
-        return Refused(said[0], " ".join(said[1:]), unflushed)
+        return refused(said[0], " ".join(said[1:]), unflushed)
     lost = ", or its status is unknown because SIGCHLD is ignored" if status == 0 else ""
     return StoreError("\n".join([f"the program has ended with status {status}{lost}", *said]), unflushed)

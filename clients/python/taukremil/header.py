@@ -27,6 +27,7 @@ class Settings:
 
 
 SETTINGS = tuple(field.name for field in fields(Settings))
+LEAST = Settings(4, 1, 1, 0, 256, 3)
 LARGEST = Settings(64, 16, 255, 1_024, 1_048_576, 65_536)
 
 

@@ -8,6 +8,8 @@ import selectors
 import subprocess
 import tempfile
 from collections import deque
+from collections.abc import Iterator
+from contextlib import contextmanager
 
 READ_SIZE = 1 << 18  # bytes
 PIPE_SIZE = 1 << 20  # bytes, the most that Linux by default allows without privileges
@@ -37,10 +39,21 @@ class Rejected(Exception):
 
 def run_once(command: list[str]) -> tuple[int, list[str]]:
     """Runs a program without input, and returns its status, negative for a signal, and its messages."""
-    ran = subprocess.run(
-        command, stdin=subprocess.DEVNULL, stdout=subprocess.DEVNULL, stderr=subprocess.PIPE, start_new_session=True
-    )
+    with _naming_program(command[0]):
+        ran = subprocess.run(
+            command, stdin=subprocess.DEVNULL, stdout=subprocess.DEVNULL, stderr=subprocess.PIPE, start_new_session=True
+        )
     return ran.returncode, _messages(ran.stderr)
+
+
+@contextmanager
+def _naming_program(name: str) -> Iterator[None]:
+    """Tells how to name the program, if it is missing."""
+    try:
+        yield
+    except FileNotFoundError as missing:
+        advice = "no such program; pass the path of bwsh as Store(.., program=PATH)"
+        raise FileNotFoundError(missing.errno, advice, name) from None
 
 
 def _messages(said: bytes) -> list[str]:
@@ -55,9 +68,10 @@ class Program:
         fcntl.fcntl(self._stderr, fcntl.F_SETFL, os.O_APPEND)  # so that it can be truncated meanwhile
         pipe = subprocess.PIPE
         try:
-            self.process = subprocess.Popen(
-                command, bufsize=0, stdin=pipe, stdout=pipe, stderr=self._stderr, start_new_session=True
-            )
+            with _naming_program(command[0]):
+                self.process = subprocess.Popen(
+                    command, bufsize=0, stdin=pipe, stdout=pipe, stderr=self._stderr, start_new_session=True
+                )
         except BaseException:
             self._stderr.close()
             raise

@@ -15,15 +15,19 @@ from types import TracebackType
 from typing import Any, Literal, TypeVar, Union, overload
 
 from .commands import MOST_COMMANDS, MOST_ROWS, Add, Command, Del, Get, NextLine, Put, Row, Scan, Wipe
-from .commands import encode, encode_back, encode_batch, encode_copy, encode_pairs, may_write, next_key, parse_numbers, prefix_range
+from .commands import encode, encode_back, encode_batch, encode_copy, encode_pairs, listed, may_write, next_key
+from .commands import parse_numbers, prefix_range
 from .copying import create_if_missing, sync_folder, write_copy
 from .errors import Lost, Refused, StoreError, error_of, refusal_of
 from .header import LARGEST, SETTINGS, Settings, Stat, read_settings, read_stat
 from .loading import Loading
 from .program import Ended, Program, Rejected, Unexpected
 
-OPTIONS = (*SETTINGS, "workers", "grain", "tidy")
-SEGMENTS = 4_096  # of a new store
+RUNNING = ("workers", "grain", "tidy")
+SIZES = ("fan", "chain", "seg_size", "segments")  # which `pairs` chooses
+OPTIONS = (*SETTINGS, "pairs", *RUNNING)
+PAIRS = 40_000  # for which a new store has room, of the greatest length
+SIZED = {"fan": 32, "chain": 16, "segments": 4_096}  # of a new store if one of SIZES is given
 LOAD_SIZE = 5_000  # pairs of a batch
 PAGE_SIZE = 1_000  # pairs that an iteration reads at a time
 PAUSE = 0.05  # seconds between tries to lock the file
@@ -52,6 +56,12 @@ def _check_names(settings: dict[str, int], known: tuple[str, ...]) -> None:
     unknown = settings.keys() - set(known)
     if unknown:
         raise TypeError(f"unknown setting {min(unknown)}; the settings are {', '.join(known)}")
+
+
+def _check_sizes(settings: dict[str, int]) -> None:
+    sizes = [name for name in SIZES if name in settings]
+    if sizes and "pairs" in settings:
+        raise TypeError(f"pairs chooses {', '.join(SIZES)}: leave {sizes[0]} out")
 
 
 class Store:
@@ -83,17 +93,20 @@ class Store:
         If `create` is True, creates a new store and overwrites the file. If it is "missing", creates a store only if
         there is no file, an empty one, or one that an interrupted creation left. If another process has locked the
         file, tries again for `wait` seconds.
-        The settings are options of the program: `fan`, `chain`, `max_key` (bytes), `max_value` (bytes), `seg_size`
-        (bytes) and `segments` (4,096 by default) for a new store, and `workers`, `grain` and `tidy` for any store.
+        A new store has keys and values of up to `max_key` (64) and `max_value` (256) bytes, and room for `pairs`
+        (40,000) pairs of that length. Instead of `pairs`, `fan`, `chain`, `seg_size` (bytes) and `segments` can be
+        given. Any store takes `workers`, `grain` and `tidy`.
         Raises OSError if the program cannot be started.
         """
         _check_names(settings, OPTIONS)
+        _check_sizes(settings)
         if isinstance(create, str) and create != "missing":
             raise ValueError(f'create must be True, False or "missing", not {create!r}')
         self.path = Path(path).absolute()
         self._wait = wait
         self._program_path = _program_path(program)
-        self._options = settings
+        self._options = {name: number for name, number in settings.items() if name in RUNNING}
+        self._for_new = {name: number for name, number in settings.items() if name not in RUNNING}
         self._settings = LARGEST
         self._lock = threading.RLock()
         self._program: Program | None = None
@@ -179,13 +192,13 @@ class Store:
 
         Raises ValueError or TypeError with the index of the first wrong command.
         """
-        listed = list(commands)
-        if not listed:
+        batch = listed(commands, "a batch is a list of commands")
+        if not batch:
             self._run_alone(self._check_not_lost)
             return []
-        text = encode_batch(listed, self._settings)
-        writing = any(map(may_write, listed))
-        return self._query(text, lambda line: [command.reply(line) for command in listed], writing)
+        text = encode_batch(batch, self._settings)
+        writing = any(map(may_write, batch))
+        return self._query(text, lambda line: [command.reply(line) for command in batch], writing)
 
     def batches(self, batches: Iterable[Iterable[Command[Any]]]) -> list[list[Any]]:
         """Executes `batches` in order, and returns a list of replies for each.
@@ -193,15 +206,15 @@ class Store:
         All are sent at once, which saves waiting for each reply; they remain separate batches. If one is refused, the
         others are executed, and then the first refusal is raised.
         """
-        listed = [list(batch) for batch in batches]
-        if not any(listed):
+        lists = [listed(batch, "a batch is a list of commands") for batch in listed(batches, "batches are a list of lists")]
+        if not any(lists):
             self._run_alone(self._check_not_lost)
-            return [[] for _ in listed]
-        texts = [encode_batch(batch, self._settings, f"batch {index}, ") for index, batch in enumerate(listed) if batch]
+            return [[] for _ in lists]
+        texts = [encode_batch(batch, self._settings, f"batch {index}, ") for index, batch in enumerate(lists) if batch]
 
         def talk(program: Program) -> tuple[list[list[Any]], int]:
             program.send(b"".join(texts))
-            return _read_replies(program, listed)
+            return _read_replies(program, lists)
 
         return self._run_alone(lambda: self._talk(self._running_program(), talk))
 
@@ -282,12 +295,13 @@ class Store:
         """Copies the store, as it is now, to the file `path`, which must be missing, empty or unfinished.
 
         The copy has the settings of this store, except the given ones (`fan`, `chain`, `max_key`, `max_value`,
-        `seg_size` and `segments`), and version 1 of the log. A new number of `segments` costs nothing more. For other
+        `seg_size` and `segments`, or `pairs`), and version 1 of the log. A new number of `segments` costs nothing more. For other
         settings the store is flushed, and the program is ended for the copy, and then started again; if another
         process locks the file in between, tries again for as long as `wait` says, and then raises `Refused`.
         After an error of the copy itself nothing is lost, and the store can be used.
         """
-        _check_names(settings, SETTINGS)
+        _check_names(settings, (*SETTINGS, "pairs"))
+        _check_sizes(settings)
         copy = self._copy_alone if settings.keys() - {"segments"} else self._copy_beside
         self._run_alone(lambda: copy(Path(path).absolute(), settings))
 
@@ -358,7 +372,10 @@ class Store:
         self._check_not_own(path)
         if self._unflushed:
             self._flush()
-        options = {**self._options, **asdict(self._settings), **settings}
+        own = asdict(self._settings)
+        if "pairs" in settings:
+            own = {name: own[name] for name in own if name not in SIZES}
+        options = {**self._options, **own, **settings}
         self._end_program()
         try:
             self._retry(lambda: write_copy(self._command([f"--disk={self.path}"], options), path))
@@ -395,7 +412,8 @@ class Store:
             program.abandon()
 
     def _open(self, create: bool | Literal["missing"]) -> None:
-        for_new = {"segments": SEGMENTS, **self._options}
+        is_sized = any(name in self._for_new for name in SIZES)
+        for_new = {**(SIZED if is_sized else {"pairs": PAIRS}), **self._for_new, **self._options}
 
         def open_once() -> None:
             if create == "missing":
