@@ -195,6 +195,16 @@ def copy_full_queue(programs: Programs) -> Outcome:
 LOOK_UNFINISHED = [bytes(9_999) + b"\1", bytes(4_096) + b"\1" + bytes(4_096), b"\0WBATCH1\0\3\0\4" + bytes(1_524), b"\0 precious"]
 
 
+def hidden_stores(programs: Programs, path: Path) -> list[bytes]:
+    """Returns the bytes of stores after two, three and four flushes, which have sequence numbers 3, 4 and 5, with 0 as the first byte."""
+    hidden = []
+    for flushes in (2, 3, 4):
+        text = b"".join(b"put a %d\nflush\n" % number for number in range(flushes))
+        if run([programs.store, *SMALL_STORE, "--create", "--disk", path], text).status:
+            raise ValueError("a store was not made")
+        hidden.append(b"\0" + path.read_bytes()[1:])
+    return hidden
+
 
 def copy_over(programs: Programs) -> Outcome:
     """A file with bytes, even the store's own, keeps them and nothing is run; an empty one becomes the copy."""
@@ -203,7 +213,7 @@ def copy_over(programs: Programs) -> Outcome:
         before = make(programs, store)
         wrong = None
         on_store = ("--disk", str(store))
-        for text in (b"\1", b"0123456789", *LOOK_UNFINISHED):
+        for text in (b"\1", b"0123456789", *LOOK_UNFINISHED, *hidden_stores(programs, Path(folder) / "old")):
             copy.write_bytes(text)
             for words in (on_store, (*on_store, "--stream"), (*on_store, "--create"), ()):
                 ran = run([programs.store, *words, "--copy-to", copy], b"put z 1\nflush\n")

@@ -1,5 +1,5 @@
 -- The result of opening the store of a file.
-use Rattle.std.specs.Prelude.{MatchOption, MatchResult, IfOk, IfErr, IsSome, replicate, is_some, ◌||◌, IsTrue}
+use Rattle.std.specs.Prelude.{MatchOption, MatchResult, IfOk, IfErr, IsSome, replicate, is_some, not, ◌&&◌, ◌||◌, IsTrue}
 use Rattle.std.proofs.Common.{◌≡◌, ◌≢◌, ◌⊎◌, inl, inr, ⊎_elim, sym, ap, refl, subst, ◌∙◌, ℕ, zero, suc, ◌<◌, ◌-◌, ◌^◌, Bool, true, false, List, [], ◌∷◌, length, get_or, take, Option, None, Some, Result, Ok, Err, arith}
 use Rattle.std.proofs.lemmas.Bool.{false≢true}
 use Rattle.std.proofs.lemmas.List.{get_or-take, length-replicate, take-take}
@@ -20,7 +20,7 @@ use Rattle.recovery.specs.Recovered.{IsLate, IsReadOf}
 use Rattle.recovery.specs.StoreOfDisk.{store_of_disk}
 use Rattle.recovery.proofs.ReadBytes.{first_read, kept_then}
 use Rattle.engine.specs.FileStore.{IfStoreFound, IsFaultIn, IsFaultOfFile, IsFound, IsFoundIn, IsNewStore, IsStoreOfFile, disk_found, made_on_zeros}
-use Rattle.engine.specs.Hidden.{HoldsNoStore, are_zeros, exchanged, hides_block, is_unfinished}
+use Rattle.engine.specs.Hidden.{HoldsNoStore, are_zeros, exchanged, hides_block, is_unfinished, was_complete}
 use Rattle.engine.specs.Late.{after_create, create_refusal}
 use Rattle.engine.specs.State.{State}
 use Rattle.engine.specs.declared.file_store.Found.{Found}
@@ -45,13 +45,13 @@ zeros_first [] zeros is = absurd (let none : 0 ≡ 66 = is in omega (arith, none
 zeros_first (b ∷ file) zeros is = absurd (false≢true (sym (ap (λ (x : ℕ). are_zeros (x ∷ file)) is) ∙ zeros))
 
 -- they encode no store
-unfinished_by : (file : Bytes) (hides zeros : Bool) → hides_block file ≡ hides → are_zeros file ≡ zeros → (hides || zeros) ≡ true → HoldsNoStore file
-unfinished_by file true zeros h z is = below_first file (hidden_first (exchanged file) (read_settings (take 64 (exchanged file))) refl h)
-unfinished_by file false true h z is = first_other file (zeros_first file z)
-unfinished_by file false false h z is = absurd (false≢true is)
+unfinished_by : (file : Bytes) (hides complete zeros : Bool) → hides_block file ≡ hides → are_zeros file ≡ zeros → (hides && not complete || zeros) ≡ true → HoldsNoStore file
+unfinished_by file true complete zeros h z is = below_first file (hidden_first (exchanged file) (read_settings (take 64 (exchanged file))) refl h)
+unfinished_by file false complete true h z is = first_other file (zeros_first file z)
+unfinished_by file false complete false h z is = absurd (false≢true is)
 
 pub unfinished_none : (file : Bytes) → is_unfinished file ≡ true → store_of_disk file ≡ Err NotAStore
-unfinished_none file is = no_store file (unfinished_by file (hides_block file) (are_zeros file) refl refl is)
+unfinished_none file is = no_store file (unfinished_by file (hides_block file) (was_complete file) (are_zeros file) refl refl is)
 
 -- a file with another result than `NotAStore` is not unfinished
 finished : (file : Bytes) (b : Bool) → is_unfinished file ≡ b → store_of_disk file ≢ Err NotAStore → is_unfinished file ≡ false
@@ -75,7 +75,9 @@ or_true true = refl
 or_true false = refl
 
 zeros_unfinished : (n : ℕ) → is_unfinished (replicate n 0) ≡ true
-zeros_unfinished n = ap (λ (b : Bool). hides_block (replicate n 0) || b) (zeros_are n) ∙ or_true (hides_block (replicate n 0))
+zeros_unfinished n =
+    let hides : Bool = hides_block (replicate n 0) && not (was_complete (replicate n 0)) in
+    ap (λ (b : Bool). hides || b) (zeros_are n) ∙ or_true hides
 
 hides_other : (bytes : Bytes) (b : Bool) → is_some (read_settings (take 64 bytes)) ≡ b → get_or bytes 0 0 ≢ 66 → b ≡ false
 hides_other bytes true is other = absurd (other (hidden_first bytes (read_settings (take 64 bytes)) refl is))
@@ -85,7 +87,7 @@ ones_hide : (n : ℕ) → hides_block (replicate (suc n) 1) ≡ false
 ones_hide n = hides_other (exchanged (replicate (suc n) 1)) (hides_block (replicate (suc n) 1)) refl (λ is. absurd (let none : 1 ≡ 66 = is in omega (arith, none)))
 
 ones_finished : (n : ℕ) → is_unfinished (replicate (suc n) 1) ≡ false
-ones_finished n = ap (λ (b : Bool). b || are_zeros (replicate (suc n) 1)) (ones_hide n)
+ones_finished n = ap (λ (b : Bool). b && not (was_complete (replicate (suc n) 1)) || are_zeros (replicate (suc n) 1)) (ones_hide n)
 
 ones_none : (n : ℕ) → store_of_disk (replicate (suc n) 1) ≡ Err NotAStore
 ones_none n = no_store (replicate (suc n) 1) (first_other (replicate (suc n) 1) (λ is. absurd (let none : 1 ≡ 66 = is in omega (arith, none))))

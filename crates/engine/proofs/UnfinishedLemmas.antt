@@ -1,9 +1,11 @@
--- Whether a disk has only zeros, or hides a settings block.
-use Rattle.std.proofs.Common.{◌≡◌, ◌<◌, ◌≤◌, ◌+◌, ◌&&◌, ◌==◌, ℕ, Bool, true, false, List, [], ◌∷◌, ◌++◌, length, get_or, take, drop, slice_set, is_some, refl, sym, ap, ap₂, ◌∙◌, arith}
+-- Whether a disk has only zeros, or hides a settings block, and whether a store was complete there.
+use Rattle.std.proofs.Common.{◌≡◌, ◌<◌, ◌≤◌, ◌+◌, ◌&&◌, ◌||◌, ◌==◌, nat_le, ℕ, Bool, true, false, List, [], ◌∷◌, ◌++◌, length, get_or, take, drop, slice_set, is_some, refl, sym, ap, ap₂, ◌∙◌, arith}
+use Rattle.std.proofs.lemmas.Bool.Decides.{nat_tests}
 use Rattle.std.proofs.lemmas.List.{drop-take, length-take, take-append-drop, take-take}
 use Rattle.std.proofs.lemmas.List.Folds.{list_all-append}
 use Rattle.flush_log.proofs.BlockReading.{no_block}
-use Rattle.engine.specs.Hidden.{are_zeros, exchanged, exchanged_byte, hides_block}
+use Rattle.recovery.proofs.ReadSlots.{first-of, second-of}
+use Rattle.engine.specs.Hidden.{are_zeros, exchanged, exchanged_byte, hides_block, is_later_slot, was_complete}
 use Rattle.engine.proofs.HiddenLemmas.{length-exchanged}
 
 -- ---- zeros
@@ -41,6 +43,24 @@ hides_none file short =
 pub block_is : (file buf : List ℕ) (b : ℕ) → 64 ≤ length file → buf ≡ take 64 (drop 0 file) → b ≡ exchanged_byte (get_or buf 0 0) → slice_set buf 0 b ≡ take 64 (exchanged file)
 block_is [] buf b room is byte = absurd (omega (arith, room))
 block_is (x ∷ file) buf b room is byte = rw is (ap (λ (y : ℕ). y ∷ take 63 file) (byte ∙ ap (λ (bytes : List ℕ). exchanged_byte (get_or bytes 0 0)) is))
+
+-- ---- the slots
+
+-- a disk that is too short for them
+pub none_complete : (file : List ℕ) → length file < 256 → false ≡ was_complete file
+none_complete file short =
+    let test : nat_le 256 (length file) ≡ false = grind (arith, short, nat_tests) in
+    sym (ap (λ (b : Bool). b && (is_later_slot (take 64 (drop 128 file)) || is_later_slot (take 64 (drop 192 file)))) test)
+
+-- the two, in the bytes of both
+pub later_slots : (file slots first second : List ℕ) (a b : Bool) → 256 ≤ length file → slots ≡ take 128 (drop 128 file) → first ≡ take 64 slots → second ≡ drop 64 slots
+    → a ≡ is_later_slot first → b ≡ is_later_slot second → (a || b) ≡ was_complete file
+later_slots file slots first second a b room is first_is second_is a_is b_is =
+    let test : nat_le 256 (length file) ≡ true = grind (arith, room, nat_tests) in
+    let one : a ≡ is_later_slot (take 64 (drop 128 file)) = a_is ∙ ap is_later_slot (first_is ∙ sym (first-of file slots (sym is))) in
+    let other : b ≡ is_later_slot (take 64 (drop 192 file)) = b_is ∙ ap is_later_slot (second_is ∙ sym (second-of file slots (sym is))) in
+    ap₂ (λ (x y : Bool). x || y) one other
+    ∙ sym (ap (λ (t : Bool). t && (is_later_slot (take 64 (drop 128 file)) || is_later_slot (take 64 (drop 192 file)))) test)
 
 -- ---- of a disk that was only read
 

@@ -1,11 +1,12 @@
 -- A disk on which a store is created so that no reader finds it before it is complete: only at the end its first byte becomes that of a store.
-use Rattle.std.specs.Prelude.{◌≡◌, ◌⊎◌, ℕ, Bool, IsTrue, nat_eq, ◌==◌, ◌||◌, if◌then◌else◌, [], ◌∷◌, take, slice_index, is_some, Result, Err, IfOk, IfErr, MatchResult}
+use Rattle.std.specs.Prelude.{◌≡◌, ◌⊎◌, ℕ, Bool, IsTrue, not, nat_eq, nat_le, nat_lt, ◌==◌, ◌&&◌, ◌||◌, ◌+◌, ◌*◌, if◌then◌else◌, [], ◌∷◌, length, take, drop, slice_index, is_some, Result, Err, IfOk, IfErr, MatchResult}
 use Rattle.std.specs.List.{list_all}
 use Rattle.keys.specs.Bytes.{Bytes}
 use Rattle.keys.specs.declared.fault.Fault.{Fault}
 use Rattle.keys.specs.declared.fault.Fault.TheVariants.{Device, NotAStore}
 use Rattle.flush_log.specs.Disk.{View, IsSynced, Kept, LeavesOnly}
 use Rattle.flush_log.specs.Overlay.{overlay, IsBeside, AgreeAt}
+use Rattle.flush_log.specs.Slot.{slot_in, slot_place, slot_size, slots_begin}
 use Rattle.flush_log.specs.SettingsBlock.{read_settings, settings_block_size, store_settings}
 use Rattle.recovery.specs.Recovered.{IsLate}
 use Rattle.engine.specs.State.{State, IsSound}
@@ -77,6 +78,21 @@ are_zeros bytes = list_all (λ b. b == 0) bytes
 abbrev pub hides_block : Bytes → Bool
 hides_block file = is_some (read_settings (take settings_block_size (exchanged file)))
 
--- bytes that an interrupted attempt to create a store leaves: a hidden settings block with anything after it, only zeros, or no bytes
+-- the greatest sequence number that a store has before its first byte is written: that of the flush of a copy's pairs
+abbrev pub last_of_creation : ℕ
+last_of_creation = 2
+
+-- the bytes of an open slot with a greater number
+abbrev pub is_later_slot : Bytes → Bool
+is_later_slot slot = slice_index slot 0 == 1 && nat_lt last_of_creation (slot_in slot).sequence
+
+-- one of the two slots is such a slot, so a store was complete there, and flushed after that
+abbrev pub was_complete : Bytes → Bool
+was_complete file =
+    nat_le (slots_begin + 2 * slot_size) (length file)
+    && (is_later_slot (take slot_size (drop (slot_place 0) file)) || is_later_slot (take slot_size (drop (slot_place 1) file)))
+
+-- bytes that an interrupted attempt to create a store leaves: a hidden settings block, and slots as creation writes them, with anything else after
+-- it; only zeros, or no bytes
 abbrev pub is_unfinished : Bytes → Bool
-is_unfinished file = hides_block file || are_zeros file
+is_unfinished file = hides_block file && not (was_complete file) || are_zeros file

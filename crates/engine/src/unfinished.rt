@@ -1,13 +1,21 @@
 //! Detects disks on which the creation of a store was interrupted.
-ghost use Rattle.std.specs.Prelude.{◌≡◌, ◌+◌, ◌≤◌, IsTrue, length, take, drop, IfOk};
+ghost use Rattle.std.specs.Prelude.{◌≡◌, ◌+◌, ◌≤◌, ◌&&◌, IsTrue, not, length, take, drop, IfOk};
 ghost use Rattle.flush_log.specs.Disk.{Kept, CountsFailure, OnlyRead};
-ghost use Rattle.engine.specs.Hidden.{are_zeros, hides_block, is_unfinished};
+ghost use Rattle.flush_log.specs.Slot.{slot_size};
+ghost use Rattle.engine.specs.Hidden.{are_zeros, hides_block, is_later_slot, is_unfinished, was_complete};
 
 use crate::hidden_disk::exchanged_byte;
-use flush_log::{Disk, DiskFault, read_settings};
+use flush_log::{Disk, DiskFault, SLOT_SIZE, SLOTS_BEGIN, read_settings, slot_in};
 
 // How many bytes the settings block has.
 const BLOCK_SIZE: usize = 64;
+
+// How many bytes both slots have.
+const SLOTS_SIZE: usize = 2 * SLOT_SIZE;
+
+// The greatest sequence number that a store has before its first byte is written: creation gives 1, and the flush of a
+// copy's pairs 2.
+const LAST_OF_CREATION: u64 = 2;
 
 // How many bytes are read at a time.
 const PIECE_SIZE: usize = 4_096;
@@ -27,6 +35,45 @@ fn hides_block<D: Disk>(disk: &mut D) -> Result<bool, DiskFault>
     disk.read_at(0, &mut block)?;
     block[0] = exchanged_byte(block[0]);
     Ok(read_settings(&block).is_some())
+}
+
+// Whether these are the bytes of an open slot that creation does not write.
+fn is_later_slot(bytes: &[u8]) -> bool
+    requires { length bytes.now ≡ slot_size }
+    ensures { result ≡ is_later_slot bytes.now }
+{
+    bytes[0] == 1 && slot_in(bytes).ends.sequence > LAST_OF_CREATION
+}
+
+// Whether the disk has a slot that creation does not write, so that a store was complete there.
+fn was_complete<D: Disk>(disk: &mut D) -> Result<bool, DiskFault>
+    ensures kept { Kept (D.view disk.old) (D.view disk.new) }
+    ensures failed { CountsFailure result (D.failed disk.old) (D.failed disk.new) }
+    ensures exact { IsTrue (D.view disk.old).is_honest →
+        IfOk result (λ complete. complete ≡ was_complete (D.view disk.old).seen) }
+    ensures same { OnlyRead (D.view disk.old) (D.view disk.new) }
+{
+    if disk.len() < SLOTS_BEGIN + SLOTS_SIZE as u64 {
+        return Ok(false);
+    }
+    let mut slots = [0; SLOTS_SIZE];
+    disk.read_at(SLOTS_BEGIN, &mut slots)?;
+    Ok(is_later_slot(&slots[..SLOT_SIZE]) || is_later_slot(&slots[SLOT_SIZE..]))
+}
+
+// Whether the disk hides a store whose creation was not completed.
+fn hides_new<D: Disk>(disk: &mut D) -> Result<bool, DiskFault>
+    ensures kept { Kept (D.view disk.old) (D.view disk.new) }
+    ensures failed { CountsFailure result (D.failed disk.old) (D.failed disk.new) }
+    ensures exact { IsTrue (D.view disk.old).is_honest → IfOk result (λ hides.
+        hides ≡ (hides_block (D.view disk.old).seen && not (was_complete (D.view disk.old).seen))) }
+    ensures same { OnlyRead (D.view disk.old) (D.view disk.new) }
+{
+    if !hides_block(disk)? {
+        return Ok(false);
+    }
+    let is_complete = was_complete(disk)?;
+    Ok(!is_complete)
 }
 
 fn are_zeros(bytes: &[u8]) -> bool
@@ -70,12 +117,14 @@ fn has_only_zeros<D: Disk>(disk: &mut D) -> Result<bool, DiskFault>
 }
 
 /// Returns whether the disk has what an interrupted attempt to create a store leaves: no bytes, only zeros, or a valid
-/// settings block whose first byte is still 0, with anything after it. The attempts are `Store::create`,
-/// `Store::copy_to` and `open_or_create`. Such a disk has no store. If the attempt was made over an old store, the
-/// pairs of that store can no longer be read.
+/// settings block whose first byte is still 0, without an open slot that has a sequence number above 2. The attempts
+/// are `Store::create`, `Store::copy_to` and `open_or_create`. Such a disk has no store. Creation gives sequence number
+/// 1, and a copy 2; so a disk with a greater one had a complete store, whose first byte is damaged, or which an attempt
+/// to create another store there has hidden.
 ///
-/// Only reads: first 64 bytes, and then, if they do not decide, 4,096 bytes at a time up to the first piece that has a
-/// byte other than 0. So only a disk of zeros is read to its end. Fails with `DiskFault` if a read fails.
+/// Only reads: first 64 bytes, then the 128 bytes of the slots, and then, if these do not decide, 4,096 bytes at a time
+/// up to the first piece that has a byte other than 0. So only a disk of zeros is read to its end. Fails with
+/// `DiskFault` if a read fails.
 pub fn is_unfinished<D: Disk>(disk: &mut D) -> Result<bool, DiskFault>
     ensures kept { Kept (D.view disk.old) (D.view disk.new) }
     ensures failed { CountsFailure result (D.failed disk.old) (D.failed disk.new) }
@@ -85,7 +134,7 @@ pub fn is_unfinished<D: Disk>(disk: &mut D) -> Result<bool, DiskFault>
     // Neither the bytes changed, nor what a crash may leave.
     ensures same { OnlyRead (D.view disk.old) (D.view disk.new) }
 {
-    if hides_block(disk)? {
+    if hides_new(disk)? {
         return Ok(true);
     }
     has_only_zeros(disk)
