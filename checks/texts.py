@@ -34,6 +34,12 @@ NOTHING = (0, b"", b"")
 LONG = b"a" * MEGABYTE
 MILLION = 1_000_000
 
+STREAM = ("--stream",)
+MOST = 16_384  # bytes of a line of a stream, unless it is a comment
+HUGE = 50 * MEGABYTE
+FEW = 12 * MEGABYTE  # memory of a session that keeps no long line
+TOO_LONG = b"line 1: line too long\n"
+
 TURNS, STEP = 1_000, 5  # alternating wipes and scans, and the pairs that each wipe removes
 
 
@@ -130,6 +136,25 @@ TEXTS = [
         for batch in COSTLY
         for settings, words in (("default settings", ()), ("fan 64, chain 16", ("--fan", "64", "--chain", "16")))
     ],
+    HostileText("a put of 50 MB in a stream", lambda: b"put a " + b"b" * HUGE + b"\nput b 1\ngo\nget b\n", (0, TOO_LONG + b"missing\n", b""), STREAM, memory=FEW),
+    HostileText("50 MB without a command in a stream", lambda: b"a" * HUGE + b"\nflush\n", (0, TOO_LONG + b"flushed 1\n", b""), STREAM, memory=FEW),
+    HostileText("a comment of 50 MB in a stream", lambda: b" # " + b"put a 1 " * (HUGE // 8) + b"\nget a\n", (0, b"missing\n", b""), STREAM, memory=FEW),
+    HostileText("50 MB that no line feed ends, in a stream", lambda: b"get a\n" + b"b" * HUGE, (0, b"missing\n", b""), STREAM, memory=FEW),
+    HostileText("the longest line of a stream", lambda: b"get a".ljust(MOST) + b"\n", (0, b"missing\n", b""), STREAM),
+    HostileText("the longest line of a stream, with CR LF", lambda: b"get a".ljust(MOST) + b"\r\n", (0, b"missing\n", b""), STREAM),
+    HostileText("the longest line of a stream, and a carriage return", lambda: b"get a".ljust(MOST) + b"\r\r\n", (0, TOO_LONG, b""), STREAM),
+    HostileText("a byte more than the longest line of a stream", lambda: b"get a".ljust(MOST + 1) + b"\n", (0, TOO_LONG, b""), STREAM),
+    HostileText("two bytes more", lambda: b"get a".ljust(MOST + 2) + b"\n", (0, TOO_LONG, b""), STREAM),
+    HostileText("three bytes more", lambda: b"get a".ljust(MOST + 3) + b"\n", (0, TOO_LONG, b""), STREAM),
+    HostileText("a comment after many blanks in a stream", lambda: b"#".rjust(MOST) + LONG + b"\nget a\n", (0, b"missing\n", b""), STREAM),
+    HostileText("a comment after too many blanks in a stream", lambda: b"#".rjust(MOST + 1) + b"\nget a\n", (0, TOO_LONG, b""), STREAM),
+    HostileText(
+        "a long line in a batch of a stream",
+        lambda: b"put a 1\nput b " + LONG + b"\nput c 3\ngo\nscan % * 9\n",
+        (0, b"line 2: line too long\nrows 0\n", b""),
+        STREAM,
+    ),
+    HostileText("the same line in a text", lambda: b"put a 1\nput b " + LONG + b"\n", fault("3 ValueTooLong 1")),
     HostileText(
         "batches of one command",
         lambda: b"get a\ngo\n" * SMALL,

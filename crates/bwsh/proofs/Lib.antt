@@ -13,6 +13,7 @@ mod FirstLemmas
 mod FlushLemmas
 mod FoundLemmas
 mod Literals
+mod LongLemmas
 mod LoopLemmas
 mod MergedLemmas
 mod NumberLemmas

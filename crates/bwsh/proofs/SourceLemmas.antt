@@ -1,5 +1,5 @@
 -- Lemmas on the source of a session's orders: the lines that it reads, and their orders.
-use Rattle.std.proofs.Common.{◌≡◌, ◌≢◌, ◌≤◌, ◌<◌, ◌+◌, ◌-◌, ◌==◌, ◌&&◌, ◌⊎◌, inl, inr, ℕ, suc, length, take, take_all, drop, slice_index, Bool, true, false, cond, List, [], ◌∷◌, ◌++◌, map, filter, All, Option, Some, None, IfSome, option_to_list, Result, Ok, Err, IfOk, OnOk, is_err, nat_eq, refl, sym, ap, ◌∙◌, subst, append_assoc, append-nil, arith, lt-ltb, eqb-true, eq-eqb, le_refl, nat_lt, if◌then◌else◌}
+use Rattle.std.proofs.Common.{◌≡◌, ◌≢◌, ◌≤◌, ◌<◌, ◌+◌, ◌-◌, ◌==◌, ◌&&◌, ◌⊎◌, inl, inr, ℕ, suc, length, take, take_all, drop, slice_index, Bool, true, false, cond, List, [], ◌∷◌, ◌++◌, map, filter, All, Option, Some, None, IfSome, option_to_list, Result, Ok, Err, IfOk, OnOk, is_err, is_ok, nat_eq, refl, sym, ap, ◌∙◌, subst, append_assoc, append-nil, arith, lt-ltb, eqb-true, eq-eqb, le_refl, nat_lt, if◌then◌else◌}
 use Rattle.std.specs.Bool.{then_some}
 use Rattle.std.specs.Io.{StartsWith, StopsAt, IsEmptyOrEndsWith}
 use Rattle.std.specs.Io.BufRead.{DropsConsumable, DropsThrough, drop_through, ends_with_byte, take_through}
@@ -24,7 +24,7 @@ use Rattle.bwsh.specs.declared.source.Source.{Source}
 use Rattle.bwsh.specs.BatchFile.{AreRead, Pending, asked, is_too_long, or_too_long, parse_text}
 use Rattle.bwsh.specs.BatchFile.Pending.{begun, skipped}
 use Rattle.bwsh.specs.Line.{parse_line}
-use Rattle.bwsh.specs.Source.{IsBatched, IsKept, IsNext, IsParsed, IsRead, IsSkipped, IsToCome, Orders, is_line, pending_of, to_come, unended}
+use Rattle.bwsh.specs.Source.{IsBatched, IsKept, IsNext, IsParsed, IsPushed, IsRead, IsSkipped, IsToCome, Orders, is_line, pending_of, to_come, unended}
 
 -- ---- the first line of some bytes
 
@@ -90,7 +90,7 @@ StopsAt-first (x ∷ xs) = go (x == 10) refl (StopsAt-first xs)
 
 -- ---- the last byte
 
-never_some : {X : Type 0} (x : X) → None ≡ Some x → ⊥
+pub never_some : {X : Type 0} (x : X) → None ≡ Some x → ⊥
 never_some x e = cc
 
 some_length : (x : ℕ) (xs : List ℕ) → nat_lt 0 (length (x ∷ xs)) ≡ true
@@ -116,17 +116,17 @@ last_byte-after : (x y : ℕ) (xs ys : List ℕ) → last_byte_of (x ∷ xs ++ y
 last_byte-after x y [] ys = last_byte-more x y ys
 last_byte-after x y (z ∷ zs) ys = last_byte-more x z (zs ++ y ∷ ys)
 
-last_byte-append : (xs ys : List ℕ) (b : ℕ) → Some b ≡ last_byte_of ys → Some b ≡ last_byte_of (xs ++ ys)
+pub last_byte-append : (xs ys : List ℕ) (b : ℕ) → Some b ≡ last_byte_of ys → Some b ≡ last_byte_of (xs ++ ys)
 last_byte-append xs [] b is = absurd (never_some b (sym is))
 last_byte-append [] (y ∷ ys) b is = is
 last_byte-append (x ∷ xs) (y ∷ ys) b is = last_byte-append xs (y ∷ ys) b is ∙ sym (last_byte-after x y xs ys)
 
 -- bytes end with a line feed or contain none
-ends_with : (xs : List ℕ) → last_byte_of xs ≡ Some 10 → IsEmptyOrEndsWith xs 10
+pub ends_with : (xs : List ℕ) → last_byte_of xs ≡ Some 10 → IsEmptyOrEndsWith xs 10
 ends_with [] is some = absurd (omega arith)
 ends_with (x ∷ xs) is some = let e : Some (slice_index (x ∷ xs) (length (x ∷ xs) - 1)) ≡ Some 10 = sym (last_byte-some x xs) ∙ is in cc
 
-none_inside : (xs : List ℕ) → StopsAt xs 10 → last_byte_of xs ≢ Some 10 → All (λ x. x ≢ 10) xs
+pub none_inside : (xs : List ℕ) → StopsAt xs 10 → last_byte_of xs ≢ Some 10 → All (λ x. x ≢ 10) xs
 none_inside [] stops other = All-nil (λ x. x ≢ 10)
 none_inside (x ∷ xs) stops other =
     let l : List ℕ = x ∷ xs in
@@ -257,6 +257,30 @@ IsSkipped-shown known mid left buffered shown len last is front end kept fits dr
     let first : take len shown ≡ take_through 10 shown = ap (λ (n : ℕ). take n shown) is ∙ first_taken shown in
     let moved = Consumes_shown known mid left buffered shown len within front end kept fits drops in (
       take len shown,
+      moved.0,
+      subst (λ (l : List ℕ). StopsAt l 10) (sym first) (StopsAt-first shown),
+      ends,
+      λ none.
+          let nothing : take_through 10 shown ≡ [] = sym first ∙ last_byte-none (take len shown) (sym ends ∙ none) in
+          let empty : shown ≡ [] = take_through-nil 10 shown (ap (λ (l : List ℕ). length l) nothing) in
+          moved.1 (ap (λ (l : List ℕ). length l) empty),
+    )
+
+-- a text was extended by this part, unless an allocation failed
+pub extended_by : {X E : Type 0} (r : Result X E) (b : Bool) (old part new : List ℕ) → b ≡ is_err r → b ≡ false → new ≡ (if is_ok r then old ++ part else old) → new ≡ old ++ part
+extended_by (Ok x) b old part new is fails extended = extended
+extended_by (Err e) b old part new is fails extended = let bad : true ≡ false = sym is ∙ fails in absurd (cc)
+
+-- the same bytes were appended to a text
+pub IsPushed-shown : (known mid left : Option (List ℕ)) (buffered : Option ℕ) (shown old new : List ℕ) (len : ℕ) (last : Option ℕ) → new ≡ old ++ take len shown → len ≡ line_len shown
+    → IfSome known (λ xs. StartsWith xs shown) → IfSome known (λ xs. length shown ≡ 0 → xs ≡ []) → Keeps known mid
+    → IfSome known (λ _. IfSome buffered (λ k. length shown ≤ k)) → DropsConsumable mid left buffered len → last ≡ last_byte_of (take len shown) → IsPushed known left old new last
+IsPushed-shown known mid left buffered shown old new len last appended is front end kept fits drops ends =
+    let within : len ≤ length shown = subst (λ (n : ℕ). n ≤ length shown) (sym is) (line_len-within shown) in
+    let first : take len shown ≡ take_through 10 shown = ap (λ (n : ℕ). take n shown) is ∙ first_taken shown in
+    let moved = Consumes_shown known mid left buffered shown len within front end kept fits drops in (
+      take len shown,
+      appended,
       moved.0,
       subst (λ (l : List ℕ). StopsAt l 10) (sym first) (StopsAt-first shown),
       ends,

@@ -1,5 +1,5 @@
 -- How a line of a batch file is parsed.
-use Rattle.std.specs.Prelude.{ℕ, Bool, ◌&&◌, List, [], ◌∷◌, Option, Some, None, Result, Ok, Err, codes, nat_eq, if◌then◌else◌}
+use Rattle.std.specs.Prelude.{ℕ, Bool, ◌&&◌, List, [], ◌∷◌, Option, Some, None, Result, Ok, Err, codes, length, take, nat_eq, nat_lt, if◌then◌else◌}
 use Rattle.std.specs.List.{starts_with}
 use Rattle.std.specs.Option.{ok_or, option_map, option_zip}
 use Rattle.std.specs.Str.{bytes_eq}
@@ -13,7 +13,7 @@ use Rattle.bwsh.specs.declared.line.Line.TheVariants as line_variants
 use Rattle.bwsh.specs.declared.order.Order.{Order}
 use Rattle.bwsh.specs.declared.order.Order.TheVariants.{Flush, Clean, Upgrade, Verify, Stat, Copy, Tidy, Back, Prefix, Help}
 use Rattle.bwsh.specs.declared.line.Why.{Why}
-use Rattle.bwsh.specs.declared.line.Why.TheVariants.{UnknownCommand, WordCount, BadToken, BadNumber}
+use Rattle.bwsh.specs.declared.line.Why.TheVariants.{UnknownCommand, WordCount, BadToken, BadNumber, TooLong}
 use Rattle.bwsh.specs.Number.{number_in}
 use Rattle.bwsh.specs.Token.{token_bytes}
 use Rattle.bwsh.specs.Words.{words_of}
@@ -24,6 +24,7 @@ why_text UnknownCommand = codes "unknown command"
 why_text WordCount = codes "wrong number of words"
 why_text BadToken = codes "bad token"
 why_text BadNumber = codes "bad number"
+why_text TooLong = codes "line too long"
 
 -- the key in these words
 abbrev pub only_key : List Bytes → Result (Bytes) Why
@@ -154,6 +155,15 @@ abbrev pub parse_words : Bool → List Bytes → Line
 parse_words dots [] = Blank
 parse_words dots (word ∷ following) = if starts_with nat_eq word (codes "#") then Blank else parse_command dots word following
 
+-- the most bytes of a line in a stream, unless it is a comment; a line of the longest words, with each byte escaped, has fewer
+abbrev pub most_in_line : ℕ
+most_in_line = 16384
+
+-- a line with more bytes, of which the first ones have these words: a comment, or a bad line
+abbrev pub parse_long : List Bytes → Line
+parse_long [] = Bad TooLong
+parse_long (word ∷ following) = if starts_with nat_eq word (codes "#") then Blank else Bad TooLong
+
 -- the parsed line, in a stream or not
 abbrev pub parse_line : Bool → Bytes → Line
-parse_line dots line = parse_words dots (words_of line)
+parse_line dots line = if dots && nat_lt most_in_line (length line) then parse_long (words_of (take most_in_line line)) else parse_words dots (words_of line)

@@ -1,6 +1,7 @@
 -- The source of a session's orders: the lines that it reads, and the orders that are still to come.
-use Rattle.std.specs.Prelude.{◌≡◌, ◌⊎◌, ◌+◌, ◌||◌, ℕ, Bool, not, true, false, nat_eq, List, [], ◌∷◌, ◌++◌, if◌then◌else◌, option_to_list, Option, Some, None, IfSome, OnSome}
+use Rattle.std.specs.Prelude.{◌≡◌, ◌≢◌, ◌≤◌, ◌⊎◌, ◌+◌, ◌||◌, ℕ, Bool, not, true, false, nat_eq, List, [], ◌∷◌, ◌++◌, if◌then◌else◌, option_to_list, Option, Some, None, IfSome, OnSome, length}
 use Rattle.std.specs.Io.{StopsAt}
+use Rattle.std.specs.Io.BufRead.{DropsThrough, take_through}
 use Rattle.std.specs.Io.KnownBytes.{Consumes, IsAtEnd}
 use Rattle.bstr.specs.Text.{last_byte_of, without_terminator}
 use Rattle.keys.specs.Bytes.{Bytes}
@@ -10,7 +11,7 @@ use Rattle.bwsh.specs.declared.order.Order.{Order}
 use Rattle.bwsh.specs.declared.source.Source.{Source}
 use Rattle.bwsh.specs.BatchFile.{AreRead, Pending, asked, last_order, parse_text}
 use Rattle.bwsh.specs.BatchFile.Pending.{begun, skipped}
-use Rattle.bwsh.specs.Line.{parse_line}
+use Rattle.bwsh.specs.Line.{most_in_line, parse_line}
 
 -- whether bytes up to a line feed are a line, where this is the last byte: in a stream only if it is a line feed
 abbrev pub is_line : Bool → Option ℕ → Bool
@@ -34,6 +35,20 @@ IsRead stream known left (Some line) =
 abbrev pub IsSkipped : Option Bytes → Option Bytes → Option ℕ → Type 0
 IsSkipped known left last =
     (bytes : Bytes) × Consumes known left bytes × StopsAt bytes 10 × (last ≡ last_byte_of bytes) × (last ≡ None → OnSome known (IsAtEnd left))
+
+-- the same bytes were appended to a text, which was this one
+abbrev pub IsPushed : Option Bytes → Option Bytes → Bytes → Bytes → Option ℕ → Type 0
+IsPushed known left old new last =
+    (bytes : Bytes) × (new ≡ old ++ bytes) × Consumes known left bytes × StopsAt bytes 10 × (last ≡ last_byte_of bytes) × (last ≡ None → OnSome known (IsAtEnd left))
+
+-- this is the beginning of a line whose end was not read, and which is too long for a stream even without the two bytes that may end it
+abbrev pub IsLong : Bytes → Type 0
+IsLong text = StopsAt text 10 × (last_byte_of text ≢ Some 10) × (most_in_line + 3 ≤ length text)
+
+-- a line was read to its end, or the beginning of a long one was
+abbrev pub IsFront : Option Bytes → Option Bytes → Bytes → Bool → Type 0
+IsFront known left text true = IfSome known (λ xs. text ≡ take_through 10 xs) × DropsThrough known left 10
+IsFront known left text false = Consumes known left text × IsLong text
 
 -- a line was read or not, and nothing else happened
 abbrev pub IsKept : {I : Type 0} → Source I → Source I → Type 0

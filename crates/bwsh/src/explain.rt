@@ -81,6 +81,7 @@ fn line_rule(is_stream: bool, why: Why) -> &'static str {
         Why::WordCount => "--help lists the words of each command. In a word, %20 is a space.",
         Why::BadToken => "Words are printable ASCII, and two hexadecimal digits follow each %.",
         Why::BadNumber => "Numbers go from 0 to 4294967295.",
+        Why::TooLong => "A line of a stream has at most 16384 bytes, unless it is a comment.",
     }
 }
 

@@ -2,7 +2,7 @@
 ghost use Rattle.std.specs.Prelude.{◌≡◌, ◌⊎◌, Some, IfOk};
 ghost use Rattle.bwsh.specs.Token.{token_bytes};
 ghost use Rattle.bwsh.specs.Words.{words_of};
-ghost use Rattle.bwsh.specs.Line.{only_key, key_and_value, bound_of, range_and_limit, parse_scan, parse_wipe, if_alone, parse_back, parse_copy, parse_dot, parse_order, parse_prefix, parse_tidy, parse_command, parse_line, why_text};
+ghost use Rattle.bwsh.specs.Line.{only_key, key_and_value, bound_of, range_and_limit, parse_scan, parse_wipe, if_alone, parse_back, parse_copy, parse_dot, parse_order, parse_prefix, parse_tidy, parse_command, parse_long, parse_line, why_text};
 
 use crate::number::number_in;
 use crate::order::Order;
@@ -23,6 +23,8 @@ pub enum Why {
     BadToken,
     /// A word that should be a number is not one.
     BadNumber,
+    /// The line of a stream has more than 16,384 bytes, and is no comment.
+    TooLong,
 }
 
 impl fmt::Display for Why {
@@ -34,9 +36,14 @@ impl fmt::Display for Why {
             Why::WordCount => "wrong number of words",
             Why::BadToken => "bad token",
             Why::BadNumber => "bad number",
+            Why::TooLong => "line too long",
         })
     }
 }
+
+/// How many bytes a line of a stream may have, unless it is a comment. More are not parsed, so that
+/// a stream need not keep them.
+pub const MOST_BYTES: usize = 16_384;
 
 // A lower bound, an upper bound and a limit.
 type Range = (Key<Global>, Option<Key<Global>>, u32);
@@ -294,6 +301,9 @@ impl LineReader {
     fn parse(&mut self, line: &[u8], has_dots: bool) -> Result<Line, AllocError>
         ensures { IfOk result (λ parsed. parsed ≡ parse_line has_dots line.now) }
     {
+        if has_dots && line.len() > MOST_BYTES {
+            return Ok(long_line(&line[..MOST_BYTES]));
+        }
         let Some((word, words)) = first_word(line) else {
             return Ok(Line::Blank);
         };
@@ -309,6 +319,16 @@ impl LineReader {
         ensures { (result ≡ parse_line has_dots line.now) ⊎ (result ≡ Line.Lost) }
     {
         self.parse(line, has_dots).unwrap_or(Line::Lost)
+    }
+}
+
+// Parses a line that is too long for a stream and begins with `front`.
+fn long_line(front: &[u8]) -> Line
+    ensures { result ≡ parse_long (words_of front.now) }
+{
+    match first_word(front) {
+        Some((word, _)) if word.starts_with(b"#") => Line::Blank,
+        _ => Line::Bad(Why::TooLong),
     }
 }
 

@@ -6,10 +6,10 @@ ghost use Rattle.bstr.specs.Text.{last_byte_of, line_len, without_terminator};
 ghost use Rattle.bwsh.specs.declared.line.Line.{Line};
 ghost use Rattle.bwsh.specs.BatchFile.{asked, is_too_long};
 ghost use Rattle.bwsh.specs.BatchFile.Pending.{begun, skipped};
-ghost use Rattle.bwsh.specs.Source.{IsBatched, IsKept, IsNext, IsParsed, IsRead, IsSkipped, Orders, is_line, pending_of, to_come, unended};
+ghost use Rattle.bwsh.specs.Source.{IsBatched, IsFront, IsKept, IsLong, IsNext, IsParsed, IsPushed, IsRead, IsSkipped, Orders, is_line, pending_of, to_come, unended};
 
 use crate::context::Session;
-use crate::line::{Line, LineReader};
+use crate::line::{Line, LineReader, MOST_BYTES};
 use crate::notes::Source as FailedSource;
 use crate::order::{Batch, Order};
 use crate::progress::{Event, Observer};
@@ -23,6 +23,13 @@ use std::{io, mem};
 // How many commands a batch may have. A stream runs a longer one as soon as it has one command
 // more, so that the store refuses it, and skips the rest of the batch.
 const MOST_COMMANDS: usize = 65_535;
+
+// How many bytes of a line of a stream are kept. If a line has more, these suffice to parse it: it
+// is longer than `MOST_BYTES` even without a line feed and a carriage return at its end.
+const MOST_KEPT: usize = MOST_BYTES + 3;
+
+// How many bytes are reserved for a line of a stream: as many as are kept, and what one read shows.
+const ROOM: usize = MOST_KEPT + 8_192;
 
 // Removes the line feed at the end of `line`, and a carriage return before it.
 fn without_end(line: &[u8]) -> &[u8]
@@ -81,6 +88,50 @@ fn skip_rest<I: BufRead>(input: &mut I, read: &[u8]) -> io::Result<Option<u8>>
             return Ok(last);
         };
         last = Some(byte);
+    }
+    // Reached only after 2^64 - 1 reads.
+    Err(io::Error::from(ErrorKind::TimedOut))
+}
+
+// Appends the buffered part of a line, up to its line feed, to `text`. Returns the last byte that
+// was appended, or `None` at the end of the input.
+fn push_shown<I: BufRead>(input: &mut I, text: &mut Vec<u8>) -> io::Result<Option<u8>>
+    ensures { IfOk result (IsPushed (I.remaining input.old) (I.remaining input.new)
+        text.old.items text.new.items) }
+{
+    let shown = match input.fill_buf() {
+        Ok(shown) => shown,
+        Err(error) => return Err(error),
+    };
+    let len = line_len(shown);
+    let part = &shown[..len];
+    let last = part.last_byte();
+    if text.extend_from_slice(part).is_err() {
+        // Not reached where `ROOM` is reserved and the buffer of `input` has at most 8 KiB.
+        return Err(io::Error::from(ErrorKind::OutOfMemory));
+    }
+    input.consume(len);
+    Ok(last)
+}
+
+// Reads a line into `text`, which is empty, but not much more than `MOST_KEPT` bytes of it. Returns
+// whether the line was read to its end.
+fn read_front<I: BufRead>(input: &mut I, text: &mut Vec<u8>) -> io::Result<bool>
+    requires { text.old.items ≡ [] }
+    ensures { IfOk result (IsFront (I.remaining input.old) (I.remaining input.new)
+        text.new.items) }
+{
+    for _ in 0..u64::MAX {
+        if text.len() >= MOST_KEPT {
+            return Ok(false);
+        }
+        let shown = push_shown(input, text)?;
+        let Some(byte) = shown else {
+            return Ok(true);
+        };
+        if byte == b'\n' {
+            return Ok(true);
+        }
     }
     // Reached only after 2^64 - 1 reads.
     Err(io::Error::from(ErrorKind::TimedOut))
@@ -168,6 +219,41 @@ impl<I: BufRead> Source<I> {
         Ok(self.is_line(last).then_some(Line::Lost))
     }
 
+    // Skips the rest of a line that is too long for a stream, and parses what was read of it.
+    fn end_long_line(&mut self) -> io::Result<Option<Line>>
+        requires stream { self.old.is_stream ≡ true }
+        requires long { IsLong self.old.text.items }
+        ensures parsed { IfOk result (λ line. IfSome (I.remaining self.old.input) (λ left.
+            IsParsed self.old.is_stream (take_through 10 (self.old.text.items ++ left)) line
+            × (I.remaining self.new.input ≡ Some (drop_through 10 (self.old.text.items ++ left))))) }
+        ensures number { self.new.number ≡ self.old.number }
+        ensures kept { IsKept self.old self.new }
+    {
+        let last = skip_rest(&mut self.input, &self.text)?;
+        if !self.is_line(last) {
+            return Ok(None);
+        }
+        Ok(Some(self.reader.read(without_end(&self.text), true)))
+    }
+
+    // Reads a line of a stream. A long one is not kept.
+    fn try_read_bounded(&mut self) -> io::Result<Option<Line>>
+        requires stream { self.old.is_stream ≡ true }
+        requires empty { self.old.text.items ≡ [] }
+        ensures read { IfOk result (IsRead self.old.is_stream (I.remaining self.old.input)
+            (I.remaining self.new.input)) }
+        ensures number { self.new.number ≡ self.old.number }
+        ensures kept { IsKept self.old self.new }
+    {
+        if self.text.reserve(ROOM).is_err() {
+            return self.lose_line();
+        }
+        if read_front(&mut self.input, &mut self.text)? {
+            return Ok(self.parse());
+        }
+        self.end_long_line()
+    }
+
     fn try_read(&mut self) -> io::Result<Option<Line>>
         ensures read { IfOk result (IsRead self.old.is_stream (I.remaining self.old.input)
             (I.remaining self.new.input)) }
@@ -175,6 +261,9 @@ impl<I: BufRead> Source<I> {
         ensures kept { IsKept self.old self.new }
     {
         self.text.clear();
+        if self.is_stream {
+            return self.try_read_bounded();
+        }
         match self.input.read_until(b'\n', &mut self.text) {
             Ok(_) => Ok(self.parse()),
             Err(error) if error.kind() == ErrorKind::OutOfMemory => self.lose_line(),
