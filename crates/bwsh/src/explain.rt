@@ -137,6 +137,12 @@ fn explain_order(
     }
 }
 
+fn explain_tidied_flush(alloc: Global, line: u64) -> Result<String, AllocError> {
+    format!(in alloc;
+        "line {line}: There was not enough memory. If this flush was answered, it is done, and only --tidy before it failed.\n"
+    )
+}
+
 impl<'a> Notes<'a> {
     fn store_path(&self) -> &str {
         match &self.asked.disk {
@@ -201,12 +207,22 @@ impl<'a> Notes<'a> {
         }
     }
 
+    // Returns whether the fault may be that of `--tidy` alone, after which only a stream does not
+    // flush.
+    fn is_of_tidied_flush(&self, lines: &OrderLines, fault: &Fault) -> bool {
+        let mode = self.asked.mode;
+        lines.is_flush && mode.tidy > 0 && !mode.stream && matches!(fault, Fault::NoMemory)
+    }
+
     fn explain_fault(&self, fault: &Fault) -> Result<String, AllocError> {
         if let Some(line) = self.unread.get() {
             return format!(in self.alloc; "line {line}: There was not enough memory to read it.\n");
         }
         if is_order_fault(fault) {
             if let Ok(lines) = self.lines.try_borrow() {
+                if self.is_of_tidied_flush(&*lines, fault) {
+                    return explain_tidied_flush(self.alloc, lines.end);
+                }
                 if lines.end > 0 {
                     let has_cleaned = self.asked.mode.clean_when_full;
                     return explain_order(self.alloc, has_cleaned, &*lines, fault);

@@ -3,6 +3,7 @@ ghost use Rattle.std.specs.Prelude.{◌≡◌};
 
 use crate::line::Line;
 use crate::options::Options;
+use crate::order::Order;
 use keys::Settings;
 use std::alloc::Global;
 use std::cell::{Cell, RefCell};
@@ -25,6 +26,8 @@ pub struct OrderLines {
     /// The line that completed the order, or, until then, the last line that was read; 0 if none
     /// was.
     pub end: u64,
+    /// Whether `end` is a line `flush`.
+    pub is_flush: bool,
     // Whether `end` completed the order, so that the next line begins another one.
     is_ended: bool,
 }
@@ -37,6 +40,7 @@ impl OrderLines {
             self.is_whole = true;
         }
         self.end = line;
+        self.is_flush = matches!(parsed, Line::Order(Order::Flush));
         self.is_ended = matches!(parsed, Line::Go | Line::Order(_));
         if let Line::Command(_) = parsed {
             self.is_whole &= self.commands.push(line).is_ok();
@@ -82,6 +86,7 @@ impl<'a> Notes<'a> {
                 commands: Vec::new(alloc),
                 is_whole: true,
                 end: 0,
+                is_flush: false,
                 is_ended: false,
             }),
             is_copying: Cell::new(false),
