@@ -1,5 +1,5 @@
 -- A clean, in terms of the claim.
-use Rattle.std.specs.Prelude.{◌≡◌, ◌≢◌, ◌⊎◌, ℕ, suc, Bool, IsTrue, true, false, Some, Result, Ok, Err, MatchResult, IfErr, OnOk}
+use Rattle.std.specs.Prelude.{◌≡◌, ◌≢◌, ◌⊎◌, ℕ, suc, Bool, IsTrue, true, false, Option, Some, Result, Ok, Err, MatchResult, IfOk, IfErr, OnOk}
 use Rattle.std.proofs.Common.{refl, sym, ap, ◌∙◌, subst, inl, inr, ⊎_elim}
 use Rattle.keys.specs.Bytes.{Bytes}
 use Rattle.keys.specs.declared.fault.Fault.{Fault}
@@ -18,7 +18,7 @@ use Rattle.cleaner.specs.AfterClean.{after_clean}
 use Rattle.cleaner.specs.Cleaned.{IsCleanFault, WouldClean}
 use Rattle.engine.specs.Claim.{FailsByDevice}
 use Rattle.engine.specs.State.{State, IsSound}
-use Rattle.engine.specs.StoreClaim.{held_in, recovered_from, if_ok}
+use Rattle.engine.specs.StoreClaim.{cleaned_to, held_in, recovered_from, with_number}
 use Rattle.engine.proofs.StepDone.{fine_where, able_where}
 
 -- the consequences of a law of `cleaner` for it
@@ -54,10 +54,20 @@ module _ {D : Type 0} (view : D → View) (failures : D → ℕ) (x y : State D)
       let (file, is, (bytes, made, head)) = read fine able in
       ap contents (keeps x.settings x.store y.store file bytes made).0
 
-  pub clean-state : (r : Result ℕ Fault) → OnOk r (after_clean x.settings x.store seen ≡ Ok (y.store, (view y.disk).seen))
-      → OnOk r (if_ok (after_clean x.settings x.store seen) ≡ Some (y.store, (view y.disk).seen))
-  clean-state (Ok n) made = ap if_ok made
-  clean-state (Err fault) made = tt
+  pub clean-state : (r : Result ℕ Fault)
+      → (x.has_failed ≡ true → (r ≡ Err Failed) × (y ≡ x))
+      → (x.has_failed ≡ false → is_crew crew ≡ false → (r ≡ Err BadCrew) × (y ≡ x))
+      → (x.has_failed ≡ false → IsTrue (is_crew crew) → (file : Bytes) × IsReadOf (view x.disk) file
+      × MatchResult r (λ head. (bytes : Bytes) × (after_clean x.settings x.store file ≡ Ok (y.store, bytes)) × (head ≡ y.store.head)) (IsCleanFault x.settings x.store file (failures x.disk) (failures y.disk)))
+      → OnOk r (after_clean x.settings x.store seen ≡ Ok (y.store, (view y.disk).seen))
+      → IfOk r (λ n. cleaned_to x.settings x.store seen ≡ Some (n, y.store, (view y.disk).seen))
+  clean-state (Ok n) failed bad read made =
+      let fine = fine_where x.has_failed (Ok n) n refl (λ h. (failed h).0) in
+      let able = able_where (is_crew crew) (Ok n) n refl (λ h. (bad fine h).0) in
+      let (file, is, (bytes, there, head)) = read fine able in
+      ap (with_number (λ (z : Store). z.head)) made
+      ∙ ap (λ (m : ℕ). (let p : Option (ℕ × Store × Bytes) = Some (m, y.store, (view y.disk).seen) in p)) (sym head)
+  clean-state (Err fault) failed bad read made = tt
 
   -- the faults after which the store has failed
   pub clean-fails : (r : Result ℕ Fault)

@@ -1,5 +1,5 @@
 -- Turns of a play in terms of the trait: two turns one after the other, and a step that fails after a turn.
-use Rattle.std.specs.Prelude.{◌≡◌, ◌≢◌, ◌⊎◌, suc, ◌<◌, Bool, IsTrue, true, false, List, [], ◌∷◌, ◌++◌, length, map, drop, Option, Some, None, Result, Err}
+use Rattle.std.specs.Prelude.{◌≡◌, ◌≢◌, ◌⊎◌, ℕ, suc, ◌<◌, Bool, IsTrue, true, false, List, [], ◌∷◌, ◌++◌, length, map, drop, Option, Some, None, Result, Err}
 use Rattle.std.proofs.Common.{refl, sym, ap, ◌∙◌, subst, inl, inr, ⊎_elim, arith}
 use Rattle.std.proofs.lemmas.List.{append-nil, length-append, map-append, take-append-le}
 use Rattle.std.specs.declared.alloc.Global.{Global}
@@ -15,11 +15,11 @@ use Rattle.flush_log.proofs.SameLemmas.{leaves_itself, left_still, settled_still
 use Rattle.flush_log.proofs.ViewLemmas.{now_leaves, only_then, weaker}
 use Rattle.recovery.proofs.ReadBytes.{kept_self, kept_then}
 use Rattle.engine.specs.Claim.{Held}
-use Rattle.engine.specs.ClaimPlay.{Members, StateCalls, AreAnswered, IsTurnOf, IsStoppedOf, IsDurableAfterSome, contents_after, durable_after, members_of, state_after, then_next}
+use Rattle.engine.specs.ClaimPlay.{Members, StateCalls, AreAnswered, IsTurnOf, IsStoppedOf, IsDurableAfterSome, after_number, contents_after, durable_after, members_of, numbers_in, state_after, then_next}
 use Rattle.engine.specs.Plays.{answer_of}
 use Rattle.engine.specs.Steps.{Step, Answer}
 use Rattle.engine.specs.Steps.Step.{Batch, Flush, Clean, Upgrade}
-use Rattle.engine.specs.Steps.Answer.{Replies}
+use Rattle.engine.specs.Steps.Answer.{Replies, Flushed, Cleaned, Upgraded}
 use Rattle.engine.specs.declared.step.Answer as code_answer
 use Rattle.engine.specs.declared.step.Step as code_step
 use Rattle.engine.proofs.PlayTurn.{device_or_not}
@@ -65,22 +65,53 @@ module _ (s : Settings) where
   some-later h m (Clean ∷ xs) ys c is = (let (n, few, e) = some-later h m xs ys c is in (suc n, omega (arith, few), e))
   some-later h m (Upgrade ∷ xs) ys c is = (let (n, few, e) = some-later (Some (s, m)) m xs ys c is in (suc n, omega (arith, few), e))
 
-module _ {State : Type 0} (f : StateCalls State) (s : Settings) where
-  -- the state after a call, and after the steps that follow
-  state-by : (o : Option (State × Bytes)) (xs ys : List (Step Global)) (mid : State) (bytes : Bytes)
-      → ((st : State) (file : Bytes) → state_after f s st file xs ≡ Some (mid, bytes) → state_after f s st file (xs ++ ys) ≡ state_after f s mid bytes ys)
-      → then_next o (λ now file. state_after f s now file xs) ≡ Some (mid, bytes) → then_next o (λ now file. state_after f s now file (xs ++ ys)) ≡ state_after f s mid bytes ys
-  state-by None xs ys mid bytes ih e = absurd (cc)
-  state-by (Some p) xs ys mid bytes ih e = ih p.0 p.1 e
+numbers-append : (answers more : List (Answer Global)) → numbers_in (answers ++ more) ≡ numbers_in answers ++ numbers_in more
+numbers-append [] more = refl
+numbers-append (Replies rs ∷ answers) more = numbers-append answers more
+numbers-append (Flushed n ∷ answers) more = ap (λ (ns : List ℕ). n ∷ ns) (numbers-append answers more)
+numbers-append (Cleaned n ∷ answers) more = ap (λ (ns : List ℕ). n ∷ ns) (numbers-append answers more)
+numbers-append (Upgraded n ∷ answers) more = ap (λ (ns : List ℕ). n ∷ ns) (numbers-append answers more)
 
-  state-append : (xs ys : List (Step Global)) (mid : State) (bytes : Bytes) (st : State) (file : Bytes) → state_after f s st file xs ≡ Some (mid, bytes) → state_after f s st file (xs ++ ys) ≡ state_after f s mid bytes ys
-  state-append [] ys mid bytes st file e =
-      let same : (let x : State × Bytes = (st, file) in x ≡ (mid, bytes)) = cc in
-      ap (λ (p : State × Bytes). state_after f s p.0 p.1 ys) same
-  state-append (Batch cs ∷ xs) ys mid bytes st file e = state-append xs ys mid bytes (f.batch s st cs) file e
-  state-append (Flush ∷ xs) ys mid bytes st file e = state-by (f.flush s st file) xs ys mid bytes (state-append xs ys mid bytes) e
-  state-append (Clean ∷ xs) ys mid bytes st file e = state-by (f.clean s st file) xs ys mid bytes (state-append xs ys mid bytes) e
-  state-append (Upgrade ∷ xs) ys mid bytes st file e = state-by (f.upgrade s st file) xs ys mid bytes (state-append xs ys mid bytes) e
+module _ {State : Type 0} (f : StateCalls State) (s : Settings) (ys : List (Step Global)) (mid last : State) (bytes left : Bytes) (more : List ℕ)
+    (on : state_after f s mid bytes ys ≡ Some (more, last, left)) where
+  -- numbers, a state and bytes
+  abbrev Left : Type 0
+  Left = List ℕ × State × Bytes
+
+  -- these steps lead to the state between, and then all the steps to the last one
+  abbrev LeadsOn : Option Left → Option Left → Type 0
+  LeadsOn first all = (ns : List ℕ) → first ≡ Some (ns, mid, bytes) → all ≡ Some (ns ++ more, last, left)
+
+  numbered_on : (n : ℕ) (first all : Option Left) → LeadsOn first all → LeadsOn (after_number n first) (after_number n all)
+  numbered_on n None all on ns e = absurd (cc)
+  numbered_on n (Some (ms, st, file)) all on ns e =
+      let same : (let p : Left = (n ∷ ms, st, file) in p ≡ (ns, mid, bytes)) = cc in
+      let now = ap (λ (p : Left). p.1) same in
+      let there = ap (λ (p : Left). p.2) same in
+      let numbers = ap (λ (p : Left). p.0) same in
+      ap (after_number n) (on ms (ap (λ (x : State). (let q : Option Left = Some (ms, x, file) in q)) now ∙ ap (λ (x : Bytes). (let q : Option Left = Some (ms, mid, x) in q)) there))
+      ∙ ap (λ (x : List ℕ). (let q : Option Left = Some (x ++ more, last, left) in q)) numbers
+
+  state-by : (o : Option (ℕ × State × Bytes)) (xs : List (Step Global))
+      → ((st : State) (file : Bytes) → LeadsOn (state_after f s st file xs) (state_after f s st file (xs ++ ys)))
+      → LeadsOn (then_next o (λ now file. state_after f s now file xs)) (then_next o (λ now file. state_after f s now file (xs ++ ys)))
+  state-by None xs ih ns e = absurd (cc)
+  state-by (Some p) xs ih ns e = numbered_on p.0 (state_after f s p.1 p.2 xs) (state_after f s p.1 p.2 (xs ++ ys)) (ih p.1 p.2) ns e
+
+  state-append : (xs : List (Step Global)) (st : State) (file : Bytes) → LeadsOn (state_after f s st file xs) (state_after f s st file (xs ++ ys))
+  state-append [] st file ns e =
+      let same : (let p : Left = ([], st, file) in p ≡ (ns, mid, bytes)) = cc in
+      let now = ap (λ (p : Left). p.1) same in
+      let there = ap (λ (p : Left). p.2) same in
+      let none = ap (λ (p : Left). p.0) same in
+      ap (λ (x : State). state_after f s x file ys) now
+      ∙ ap (λ (x : Bytes). state_after f s mid x ys) there
+      ∙ on
+      ∙ ap (λ (x : List ℕ). (let q : Option Left = Some (x ++ more, last, left) in q)) none
+  state-append (Batch cs ∷ xs) st file ns e = state-append xs (f.batch s st cs) file ns e
+  state-append (Flush ∷ xs) st file ns e = state-by (f.flush s st file) xs (state-append xs) ns e
+  state-append (Clean ∷ xs) st file ns e = state-by (f.clean s st file) xs (state-append xs) ns e
+  state-append (Upgrade ∷ xs) st file ns e = state-by (f.upgrade s st file) xs (state-append xs) ns e
 
 -- ---- turns
 
@@ -146,9 +177,10 @@ module _ {State : Type 0} (recovered : Bytes → Option Held) (calls : StateCall
       none = none_after next;
       durable = λ honest. next.durable (honest_still honest) ∙ durable_there honest ys;
       state = λ honest.
-          state-append calls old.settings xs ys mid.state mid.disk.seen old.state old.disk.seen (first.state honest)
-          ∙ ap (λ (s : Settings). state_after calls s mid.state mid.disk.seen ys) (sym first.rest.0)
-          ∙ next.state (honest_still honest);
+          state-append calls old.settings ys mid.state new.state mid.disk.seen new.disk.seen (numbers_in more)
+          (ap (λ (s : Settings). state_after calls s mid.state mid.disk.seen ys) (sym first.rest.0) ∙ next.state (honest_still honest))
+          xs old.state old.disk.seen (numbers_in answers) (first.state honest)
+          ∙ ap (λ (ns : List ℕ). (let q : Option (List ℕ × State × Bytes) = Some (ns, new.state, new.disk.seen) in q)) (sym (numbers-append answers more));
       is_synced = λ is_synced. next.is_synced (first.is_synced is_synced);
       crash = λ is_synced. crash_of ys is_synced (next.crash (first.is_synced is_synced));
     }
@@ -159,8 +191,9 @@ module _ {State : Type 0} (recovered : Bytes → Option Held) (calls : StateCall
 pub either_is : (recovered : Bytes → Option Held) (old new : View) (held : Option Held) → LeavesOnly old new (λ k. recovered k ≡ held) → LeavesOnly old new (λ k. (recovered k ≡ held) ⊎ (recovered k ≡ held))
 either_is recovered old new held crash = weaker old new (λ k. recovered k ≡ held) (λ k. (recovered k ≡ held) ⊎ (recovered k ≡ held)) (λ k is. inl is) crash
 
-pub next_is : {State : Type 0} (o : Option (State × Bytes)) (p : State × Bytes) → o ≡ Some p → then_next o (λ now bytes. Some (now, bytes)) ≡ Some p
-next_is {State = State} o p e = ap (λ (q : Option (State × Bytes)). then_next q (λ now bytes. Some (now, bytes))) e
+-- the numbers, the state and the bytes after one call
+pub next_is : {State : Type 0} (o : Option (ℕ × State × Bytes)) (n : ℕ) (st : State) (file : Bytes) → o ≡ Some (n, st, file) → then_next o (λ now bytes. Some ([], now, bytes)) ≡ Some (n ∷ [], st, file)
+next_is {State = State} o n st file e = ap (λ (q : Option (ℕ × State × Bytes)). then_next q (λ now bytes. Some ([], now, bytes))) e
 
 module _ {D State : Type 0} (view : D → View) (lawful : (disk : D) → IsTrue (view disk).is_honest → Lawful (view disk)) (recovered : Bytes → Option Held) (calls : StateCalls State)
     (m now : Pairs Bytes) (s t : Settings) (b c : Bool) (st next : State) (d e : D) where
@@ -179,8 +212,8 @@ module _ {D State : Type 0} (view : D → View) (lawful : (disk : D) → IsTrue 
     none = λ bad. absurd (not_both b bad fine);
     durable = λ _. ap (λ (x : D). recovered (view x).seen) disk;
     state = λ _.
-        ap (λ (x : State). (let q : Option (State × Bytes) = Some (x, (view d).seen) in q)) (sym state)
-        ∙ ap (λ (x : D). (let q : Option (State × Bytes) = Some (next, (view x).seen) in q)) (sym disk);
+        ap (λ (x : State). (let q : Option (List ℕ × State × Bytes) = Some ([], x, (view d).seen) in q)) (sym state)
+        ∙ ap (λ (x : D). (let q : Option (List ℕ × State × Bytes) = Some ([], next, (view x).seen) in q)) (sym disk);
     is_synced = λ is_synced. subst (λ (x : D). IsSynced (view x)) (sym disk) is_synced;
     crash = λ is_synced.
         (let P : Bytes → Type 0 = λ k. IsDurableAfterSome s (recovered (view d).seen) m (Batch cs ∷ []) (recovered k) in
@@ -192,7 +225,7 @@ module _ {D State : Type 0} (view : D → View) (lawful : (disk : D) → IsTrue 
       (holds : durable_after s (recovered (view d).seen) m (x ∷ []) ≡ held) where
     pub call_turn : b ≡ false → now ≡ m → (t ≡ s) × Kept (view d) (view e) → c ≡ b
         → (IsTrue (view d).is_honest → recovered (view e).seen ≡ held)
-        → (IsTrue (view d).is_honest → state_after calls s st (view d).seen (x ∷ []) ≡ Some (next, (view e).seen))
+        → (IsTrue (view d).is_honest → state_after calls s st (view d).seen (x ∷ []) ≡ Some (numbers_in (a ∷ []), next, (view e).seen))
         → (IsSynced (view d) → IsSynced (view e))
         → (IsSynced (view d) → LeavesOnly (view d) (view e) (λ k. (recovered k ≡ recovered (view d).seen) ⊎ (recovered k ≡ held)))
         → IsTurnOf recovered calls before (x ∷ []) (a ∷ []) left
@@ -335,8 +368,8 @@ module _ {X D State : Type 0} (con : X → Pairs Bytes) (set : X → Settings) (
         none = λ _. refl;
         durable = λ honest. ap recovered (same honest other).seen;
         state = λ honest.
-            ap (λ (y : State). (let q : Option (State × Bytes) = Some (y, (view (disk old)).seen) in q)) (sym state)
-            ∙ ap (λ (f : Bytes). (let q : Option (State × Bytes) = Some (st new, f) in q)) (sym (same honest other).seen);
+            ap (λ (y : State). (let q : Option (List ℕ × State × Bytes) = Some ([], y, (view (disk old)).seen) in q)) (sym state)
+            ∙ ap (λ (f : Bytes). (let q : Option (List ℕ × State × Bytes) = Some ([], st new, f) in q)) (sym (same honest other).seen);
         is_synced = λ is_synced. settled_still (view (disk old)) (view (disk new)) rest.1 (same is_synced.honest other) is_synced;
         crash = λ is_synced. left_still (view (disk old)) (view (disk old)) (view (disk new)) _
             (leaves_itself (view (disk old)) _ (lawful (disk old) is_synced.honest) is_synced (0, omega arith, refl)) (same is_synced.honest other);

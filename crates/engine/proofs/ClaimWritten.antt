@@ -17,7 +17,7 @@ use Rattle.recovery.specs.InStep.{IsStore, IsStoreOf}
 use Rattle.recovery.specs.StoreOfDisk.{store_of_disk}
 use Rattle.engine.specs.Claim.{Held, FailsByDevice, RecoversEither}
 use Rattle.engine.specs.State.{State, IsSound}
-use Rattle.engine.specs.StoreClaim.{held_in, recovered_from, if_ok}
+use Rattle.engine.specs.StoreClaim.{held_in, recovered_from, with_number}
 use Rattle.engine.proofs.PlayTurn.{device_or_not}
 use Rattle.engine.proofs.StepDone.{fine_where, able_where, empty_or_not}
 
@@ -67,10 +67,14 @@ module _ (after : Settings → Store → Bytes → Result (Store × Bytes) Fault
           (λ other. ap (λ (z : State D). contents z.store.tree) (unchanged other.0))
           (device_or_not fault)
 
-      pub written-state : (r : Result ℕ Fault) → OnOk r (after x.settings x.store seen ≡ Ok (y.store, (view y.disk).seen))
-          → OnOk r (if_ok (after x.settings x.store seen) ≡ Some (y.store, (view y.disk).seen))
-      written-state (Ok n) made = ap if_ok made
-      written-state (Err fault) made = tt
+      pub written-state : (r : Result ℕ Fault)
+          → IfOk r (λ n. (n ≡ y.store.sequence) × ((bytes : Bytes) × (after x.settings x.store seen ≡ Ok (y.store, bytes))))
+          → OnOk r (after x.settings x.store seen ≡ Ok (y.store, (view y.disk).seen))
+          → IfOk r (λ n. with_number (λ (z : Store). z.sequence) (after x.settings x.store seen) ≡ Some (n, y.store, (view y.disk).seen))
+      written-state (Ok n) (is, there) made =
+          ap (with_number (λ (z : Store). z.sequence)) made
+          ∙ ap (λ (m : ℕ). (let p : Option (ℕ × Store × Bytes) = Some (m, y.store, (view y.disk).seen) in p)) (sym is)
+      written-state (Err fault) ok made = tt
 
       module _ (reads : IsRead) where
         in_step : x.has_failed ≡ false → IsTrue (view x.disk).is_honest → IsStoreOf x.settings x.store seen

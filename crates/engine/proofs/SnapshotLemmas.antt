@@ -89,15 +89,15 @@ one-longer (x ∷ xs) y = ap suc (one-longer xs y)
 
 pub bytes-before : (xs : List Held) (y : Held) (n : ℕ) → n ≤ length xs → bytes_after (xs ++ y ∷ []) n ≡ bytes_after xs n
 bytes-before xs y zero few = refl
-bytes-before xs y (suc n) few = ap (λ held. number_of held ∷ []) (get-before xs y n (Prim.omega (arith, few)))
+bytes-before xs y (suc n) few = ap (λ held. number_of held ∷ suc n ∷ []) (get-before xs y n (Prim.omega (arith, few)))
 
 pub held-end : (xs : List Held) (y : Held) → held_after (xs ++ y ∷ []) (length (xs ++ y ∷ [])) ≡ Some y
 held-end xs y = rw (one-longer xs y) (get-end xs y)
 
-pub kept-seen : (xs ys : List Held) (y : Held) → ys ≡ xs ++ y ∷ [] → bytes_after ys (length ys) ≡ number_of (Some y) ∷ []
-kept-seen xs ys y e = rw e (ap (λ held. number_of held ∷ []) (held-end xs y))
+pub kept-seen : (xs ys : List Held) (y : Held) → ys ≡ xs ++ y ∷ [] → bytes_after ys (length ys) ≡ number_of (Some y) ∷ suc (length xs) ∷ []
+kept-seen xs ys y e = rw e (ap (λ held. number_of held ∷ length (xs ++ y ∷ []) ∷ []) (held-end xs y) ∙ ap (λ n. number_of (Some y) ∷ n ∷ []) (one-longer xs y))
 
-pub kept-crash : (xs ys : List Held) (y : Held) (P : Bytes → Type 0) → ys ≡ xs ++ y ∷ [] → P (bytes_after xs (length xs)) → P (number_of (Some y) ∷ []) →
+pub kept-crash : (xs ys : List Held) (y : Held) (P : Bytes → Type 0) → ys ≡ xs ++ y ∷ [] → P (bytes_after xs (length xs)) → P (number_of (Some y) ∷ suc (length xs) ∷ []) →
     LeavesOnly (view_after (bytes_after xs) (length xs)) (view_after (bytes_after ys) (length ys)) P
 kept-crash xs ys y P e before after =
     leaves-pushed (bytes_after xs) (bytes_after ys) (length xs) (length ys) P (ap length e ∙ one-longer xs y) (λ n few. ap (λ zs. bytes_after zs n) e ∙ bytes-before xs y n few)

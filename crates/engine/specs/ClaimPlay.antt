@@ -29,15 +29,15 @@ abbrev pub members_of : {X D State : Type 0} → (X → Pairs Bytes) → (X → 
 members_of contents settings has_failed state disk_of view x =
     record { contents = contents x; settings = settings x; has_failed = has_failed x; state = state x; disk = view (disk_of x) }
 
--- the effect of the calls on a state, and on the bytes of its disk
+-- the effect of the calls on a state, and on the bytes of its disk, and the numbers that they return
 pub record StateCalls (State : Type 0) : Type 0 where
   pub batch : Settings → State → List (Command Global) → State
-  pub flush : Settings → State → Bytes → Option (State × Bytes)
-  pub clean : Settings → State → Bytes → Option (State × Bytes)
-  pub upgrade : Settings → State → Bytes → Option (State × Bytes)
+  pub flush : Settings → State → Bytes → Option (ℕ × State × Bytes)
+  pub clean : Settings → State → Bytes → Option (ℕ × State × Bytes)
+  pub upgrade : Settings → State → Bytes → Option (ℕ × State × Bytes)
 
-abbrev pub calls_of : {State : Type 0} → (Settings → State → List (Command Global) → State) → (Settings → State → Bytes → Option (State × Bytes)) → (Settings → State → Bytes → Option (State × Bytes))
-    → (Settings → State → Bytes → Option (State × Bytes)) → StateCalls State
+abbrev pub calls_of : {State : Type 0} → (Settings → State → List (Command Global) → State) → (Settings → State → Bytes → Option (ℕ × State × Bytes))
+    → (Settings → State → Bytes → Option (ℕ × State × Bytes)) → (Settings → State → Bytes → Option (ℕ × State × Bytes)) → StateCalls State
 calls_of batch flush clean upgrade = record { batch = batch; flush = flush; clean = clean; upgrade = upgrade }
 
 -- ---- the answers and the effects of steps
@@ -66,14 +66,27 @@ durable_after s held m (Upgrade ∷ xs) = durable_after s (Some (s, m)) m xs
 abbrev pub IsDurableAfterSome : Settings → Option Held → Pairs Bytes → List (Step Global) → Option Held → Type 0
 IsDurableAfterSome s held m xs h = (n : ℕ) × (n ≤ length xs) × (h ≡ durable_after s held m (take n xs))
 
--- the effect of the next steps on a state and bytes, if there are some
-abbrev pub then_next : {State : Type 0} → Option (State × Bytes) → (State → Bytes → Option (State × Bytes)) → Option (State × Bytes)
-then_next None next = None
-then_next (Some p) next = next p.0 p.1
+-- the numbers that flushes, cleans and upgrades returned, in their order
+abbrev pub numbers_in : List (Answer Global) → List ℕ
+numbers_in [] = []
+numbers_in (Replies rs ∷ answers) = numbers_in answers
+numbers_in (Flushed n ∷ answers) = n ∷ numbers_in answers
+numbers_in (Cleaned n ∷ answers) = n ∷ numbers_in answers
+numbers_in (Upgraded n ∷ answers) = n ∷ numbers_in answers
 
--- the state and the bytes after these steps
-abbrev pub state_after : {State : Type 0} → StateCalls State → Settings → State → Bytes → List (Step Global) → Option (State × Bytes)
-state_after f s st file [] = Some (st, file)
+-- one number before those of the steps that follow
+abbrev pub after_number : {State : Type 0} → ℕ → Option (List ℕ × State × Bytes) → Option (List ℕ × State × Bytes)
+after_number n None = None
+after_number n (Some p) = Some (n ∷ p.0, p.1, p.2)
+
+-- the effect of the next steps on what a call returned and left
+abbrev pub then_next : {State : Type 0} → Option (ℕ × State × Bytes) → (State → Bytes → Option (List ℕ × State × Bytes)) → Option (List ℕ × State × Bytes)
+then_next None next = None
+then_next (Some p) next = after_number p.0 (next p.1 p.2)
+
+-- the numbers that these steps return, and the state and the bytes after them
+abbrev pub state_after : {State : Type 0} → StateCalls State → Settings → State → Bytes → List (Step Global) → Option (List ℕ × State × Bytes)
+state_after f s st file [] = Some ([], st, file)
 state_after f s st file (Batch cs ∷ xs) = state_after f s (f.batch s st cs) file xs
 state_after f s st file (Flush ∷ xs) = then_next (f.flush s st file) (λ now bytes. state_after f s now bytes xs)
 state_after f s st file (Clean ∷ xs) = then_next (f.clean s st file) (λ now bytes. state_after f s now bytes xs)
@@ -89,7 +102,8 @@ pub record IsTurnOf {State : Type 0} (recovered : Bytes → Option Held) (calls 
   -- a failed store executes no step
   pub none : old.has_failed ≡ true → xs ≡ []
   pub durable : IsTrue old.disk.is_honest → recovered new.disk.seen ≡ durable_after old.settings (recovered old.disk.seen) old.contents xs
-  pub state : IsTrue old.disk.is_honest → state_after calls old.settings old.state old.disk.seen xs ≡ Some (new.state, new.disk.seen)
+  -- with `answered`, this determines each answer
+  pub state : IsTrue old.disk.is_honest → state_after calls old.settings old.state old.disk.seen xs ≡ Some (numbers_in answers, new.state, new.disk.seen)
   pub is_synced : IsSynced old.disk → IsSynced new.disk
   -- a crash at any moment leaves what was durable after some of the steps
   pub crash : IsSynced old.disk → LeavesOnly old.disk new.disk (λ c. IsDurableAfterSome old.settings (recovered old.disk.seen) old.contents xs (recovered c))

@@ -1,5 +1,5 @@
--- The disk of snapshots. Its contents are one number, which encodes the settings and the pairs of the last snapshot, and which no call reads or
--- writes.
+-- The disk of snapshots. Its contents are two numbers, which no call reads or writes: one encodes the settings and the pairs of the last snapshot, and
+-- the other is how many snapshots there are.
 use Rattle.std.specs.Prelude.{◌≡◌, ℕ, zero, suc, ◌+◌, ◌≤◌, true, length, List, [], ◌∷◌, slice_get, Option, Some, None}
 use Rattle.keys.specs.Bytes.{Bytes, Pairs}
 use Rattle.keys.specs.declared.settings.Settings.{Settings}
@@ -80,8 +80,13 @@ held_of (suc n) = Some (settings_of (unpair n).0, list_of pair_of (unpair n).1)
 
 -- the snapshot that these bytes encode
 abbrev pub snapshot_of : Bytes → Option Held
-snapshot_of (n ∷ []) = held_of n
+snapshot_of (n ∷ count ∷ []) = held_of n
 snapshot_of bytes = None
+
+-- how many snapshots there are on the disk with these bytes
+abbrev pub count_of : Bytes → ℕ
+count_of (n ∷ count ∷ []) = count
+count_of bytes = 0
 
 -- ---- the disk
 
@@ -92,13 +97,13 @@ held_after snapshots (suc n) = slice_get snapshots n
 
 -- the bytes after the first n snapshots
 abbrev pub bytes_after : List Held → ℕ → Bytes
-bytes_after snapshots n = number_of (held_after snapshots n) ∷ []
+bytes_after snapshots n = number_of (held_after snapshots n) ∷ n ∷ []
 
 -- a disk whose bytes are durable at each moment, after so many moments
 abbrev pub view_after : (ℕ → Bytes) → ℕ → View
 view_after bytes now = record {
   is_honest = true;
-  size = 1;
+  size = 2;
   seen = bytes now;
   may_leave = λ c. c ≡ bytes now;
   moment = now;
@@ -114,9 +119,13 @@ pub record SnapshotsOnDisk : Type 0 where
 abbrev pub view_of : SnapshotsOnDisk → View
 view_of d = view_after (bytes_after d.snapshots) (length d.snapshots)
 
--- the bytes after a snapshot
-abbrev pub bytes_with : Held → Bytes
-bytes_with held = number_of (Some held) ∷ []
+-- the bytes after one more snapshot on a disk with these bytes
+abbrev pub bytes_with : Held → Bytes → Bytes
+bytes_with held old = number_of (Some held) ∷ suc (count_of old) ∷ []
+
+-- the effect of a flush of a store with these pairs
+abbrev pub flushed_with : Settings → Pairs Bytes → Bytes → Option (ℕ × Pairs Bytes × Bytes)
+flushed_with s m old = Some (suc (count_of old), m, bytes_with (s, m) old)
 
 -- the pairs of a snapshot
 abbrev pub pairs_held : Option Held → Option (Pairs Bytes)

@@ -1,5 +1,5 @@
 -- The trait `OrderedStore` for a store of pages: the pairs that its disk's bytes encode, and the effect of its calls on its state.
-use Rattle.std.specs.Prelude.{Option, Some, None, Result, Ok, Err}
+use Rattle.std.specs.Prelude.{ℕ, Option, Some, None, Result, Ok, Err}
 use Rattle.keys.specs.Bytes.{Bytes}
 use Rattle.keys.specs.declared.fault.Fault.{Fault}
 use Rattle.keys.specs.declared.settings.Settings.{Settings}
@@ -38,14 +38,19 @@ store_read (Err fault) = None
 abbrev pub opened_to : Bytes → Option Store
 opened_to file = store_read (store_of_disk file)
 
--- the store and the bytes after a flush
-abbrev pub flushed_to : Settings → Store → Bytes → Option (Store × Bytes)
-flushed_to s st file = if_ok (after_flush s st file)
+-- a number that the new store has, with the store and the bytes, if there is no fault
+abbrev pub with_number : (Store → ℕ) → Result (Store × Bytes) Fault → Option (ℕ × Store × Bytes)
+with_number number (Ok p) = Some (number p.0, p.0, p.1)
+with_number number (Err fault) = None
 
--- the store and the bytes after a clean
-abbrev pub cleaned_to : Settings → Store → Bytes → Option (Store × Bytes)
-cleaned_to s st file = if_ok (after_clean s st file)
+-- the number of commits, the store and the bytes after a flush
+abbrev pub flushed_to : Settings → Store → Bytes → Option (ℕ × Store × Bytes)
+flushed_to s st file = with_number (λ now. now.sequence) (after_flush s st file)
 
--- the store and the bytes after an upgrade
-abbrev pub upgraded_to : Settings → Store → Bytes → Option (Store × Bytes)
-upgraded_to s st file = if_ok (after_upgrade s st file)
+-- the number of the first segment, the store and the bytes after a clean
+abbrev pub cleaned_to : Settings → Store → Bytes → Option (ℕ × Store × Bytes)
+cleaned_to s st file = with_number (λ now. now.head) (after_clean s st file)
+
+-- the number of commits, the store and the bytes after an upgrade
+abbrev pub upgraded_to : Settings → Store → Bytes → Option (ℕ × Store × Bytes)
+upgraded_to s st file = with_number (λ now. now.sequence) (after_upgrade s st file)

@@ -1,6 +1,6 @@
 //! What every store promises, stated for an ordered map and a disk: no clause here mentions a page, a log or a position
 //! on the disk. `docs/CLAIM.md` explains it.
-ghost use Rattle.std.specs.Prelude.{◌≡◌, ◌≢◌, ◌⊎◌, Bool, true, false, List, [], map, Option, Some, None, Ok, Err, IsTrue, IfOk, OnOk, OnErr, IfErr};
+ghost use Rattle.std.specs.Prelude.{◌≡◌, ◌≢◌, ◌⊎◌, ℕ, Bool, true, false, List, [], map, Option, Some, None, Ok, Err, IsTrue, IfOk, OnOk, OnErr, IfErr};
 ghost use Rattle.std.specs.Option.{option_copied};
 ghost use Rattle.std.specs.Thread.{IsSync};
 ghost use Rattle.std.specs.declared.alloc.Global as global;
@@ -66,14 +66,15 @@ pub trait OrderedStore<D: Disk> {
     // The state of the store that is opened from these bytes.
     ghost after_open: { Bytes → Option State };
 
-    // The effect of the other calls on a state, and on the bytes of its disk.
+    // The effect of the other calls on a state, and on the bytes of its disk. Each of the last three calls also returns
+    // a number.
     ghost after_batch: { given.Settings → State → List (commanded.Command global.Global) → State };
 
-    ghost after_flush: { given.Settings → State → Bytes → Option (State × Bytes) };
+    ghost after_flush: { given.Settings → State → Bytes → Option (ℕ × State × Bytes) };
 
-    ghost after_clean: { given.Settings → State → Bytes → Option (State × Bytes) };
+    ghost after_clean: { given.Settings → State → Bytes → Option (ℕ × State × Bytes) };
 
-    ghost after_upgrade: { given.Settings → State → Bytes → Option (State × Bytes) };
+    ghost after_upgrade: { given.Settings → State → Bytes → Option (ℕ × State × Bytes) };
 
     /// Creates an empty store on a disk. The old contents of the disk are lost.
     ///
@@ -174,10 +175,10 @@ pub trait OrderedStore<D: Disk> {
             LeavesOnly (D.view (disk_of self.old)) (D.view (disk_of self.new))
             (RecoversEither recovered (recovered (D.view (disk_of self.old)).seen)
             (Some (settings self.old, contents self.old))) }
-        // The new state and the disk's bytes are functions of the old ones.
-        ensures state { IsTrue (D.view (disk_of self.old)).is_honest → OnOk result (
+        // The number, the new state and the disk's bytes are functions of the old state and bytes.
+        ensures state { IsTrue (D.view (disk_of self.old)).is_honest → IfOk result (λ n.
             after_flush (settings self.old) (state self.old) (D.view (disk_of self.old)).seen
-            ≡ Some (state self.new, (D.view (disk_of self.new)).seen)) }
+            ≡ Some (n, state self.new, (D.view (disk_of self.new)).seen)) }
         ensures rest { (settings self.new ≡ settings self.old)
             × Kept (D.view (disk_of self.old)) (D.view (disk_of self.new)) }
         ensures fails { FailsByDevice result (has_failed self.old) (has_failed self.new) }
@@ -201,9 +202,9 @@ pub trait OrderedStore<D: Disk> {
         ensures crash { has_failed self.old ≡ false → IsSynced (D.view (disk_of self.old)) →
             LeavesOnly (D.view (disk_of self.old)) (D.view (disk_of self.new))
             (λ c. recovered c ≡ recovered (D.view (disk_of self.old)).seen) }
-        ensures state { IsTrue (D.view (disk_of self.old)).is_honest → OnOk result (
+        ensures state { IsTrue (D.view (disk_of self.old)).is_honest → IfOk result (λ n.
             after_clean (settings self.old) (state self.old) (D.view (disk_of self.old)).seen
-            ≡ Some (state self.new, (D.view (disk_of self.new)).seen)) }
+            ≡ Some (n, state self.new, (D.view (disk_of self.new)).seen)) }
         ensures rest { (settings self.new ≡ settings self.old)
             × Kept (D.view (disk_of self.old)) (D.view (disk_of self.new)) }
         ensures fails { FailsByDevice result (has_failed self.old) (has_failed self.new) }
@@ -230,9 +231,9 @@ pub trait OrderedStore<D: Disk> {
             LeavesOnly (D.view (disk_of self.old)) (D.view (disk_of self.new))
             (RecoversEither recovered (recovered (D.view (disk_of self.old)).seen)
             (Some (settings self.old, contents self.old))) }
-        ensures state { IsTrue (D.view (disk_of self.old)).is_honest → OnOk result (
+        ensures state { IsTrue (D.view (disk_of self.old)).is_honest → IfOk result (λ n.
             after_upgrade (settings self.old) (state self.old) (D.view (disk_of self.old)).seen
-            ≡ Some (state self.new, (D.view (disk_of self.new)).seen)) }
+            ≡ Some (n, state self.new, (D.view (disk_of self.new)).seen)) }
         ensures rest { (settings self.new ≡ settings self.old)
             × Kept (D.view (disk_of self.old)) (D.view (disk_of self.new)) }
         ensures fails { FailsByDevice result (has_failed self.old) (has_failed self.new) }

@@ -45,7 +45,7 @@ pub fn put_then_get<
     again.batch(rt, crew, gets)
 }
 
-/// Calls `put_then_get` on a disk in memory, which is honest, and and whose simulated crashes are proved to be possible
+/// Calls `put_then_get` on a disk in memory, which is honest, and whose simulated crashes are proved to be possible
 /// crashes. `fill` selects what a crash leaves in each range that was written but not synced.
 pub fn put_then_get_in_memory<R: Threads + Sync, S: OrderedStore<CrashDisk<Global>> + Drop>(
     rt: &R,
@@ -67,8 +67,8 @@ pub fn put_then_get_in_memory<R: Threads + Sync, S: OrderedStore<CrashDisk<Globa
 }
 
 /// Creates a store, executes the batch `first`, flushes, executes the batch `second`, and flushes again. The machine
-/// may crash at any moment of the second flush: the disk may then fail, and `crash` turns it into any disk that a crash
-/// may leave of it. Opens the store again from this disk. Returns whether the second flush succeeded, and the replies
+/// may crash after the second flush, or at any call of the disk in it, which then fails, as do all later calls: `crash`
+/// turns the disk into any disk that a crash may leave of it. Opens the store again from this disk. Returns whether the second flush succeeded, and the replies
 /// to the batch `gets`.
 ///
 /// If the disk is honest, the replies are those of an ordered map on which both batches were executed, or, unless the

@@ -187,7 +187,8 @@ impl SnapshotDisk {
 
     // Keeps one more snapshot. A crash leaves the bytes before it, or those of this snapshot.
     fn keep(&mut self, snapshot: Snapshot) -> Result<(), AllocError>
-        ensures seen { OnOk result ((view_of self.new).seen ≡ bytes_with snapshot) }
+        ensures seen { OnOk result ((view_of self.new).seen
+            ≡ bytes_with snapshot (view_of self.old).seen) }
         ensures crash { LeavesOnly (view_of self.old) (view_of self.new)
             (λ c. (c ≡ (view_of self.old).seen) ⊎ (snapshot_of c ≡ Some snapshot)) }
         ensures err { OnErr result (self.new ≡ self.old) }
@@ -237,7 +238,7 @@ impl Disk for SnapshotDisk {
     } };
 
     fn len(&self) -> u64 {
-        1
+        2
     }
 
     fn failures(&self) -> u64 {
@@ -271,7 +272,7 @@ impl OrderedStore<SnapshotDisk> for SnapshotStore {
     ghost use Rattle.std.specs.Prelude.{[], Some, None, false};
     ghost use Rattle.keys.specs.Bytes.{Bytes, Pairs};
     ghost use Rattle.keys.specs.Step.{map_after_all};
-    ghost use Rattle.engine.specs.Snapshots.{snapshot_of, bytes_with, pairs_held};
+    ghost use Rattle.engine.specs.Snapshots.{snapshot_of, bytes_with, flushed_with, pairs_held};
 
     ghost contents = { λ x. x.now.1 };
 
@@ -287,13 +288,13 @@ impl OrderedStore<SnapshotDisk> for SnapshotStore {
 
     ghost state = { λ x. x.now.1 };
 
-    ghost after_create = { λ s _. Some ([], bytes_with (s, [])) };
+    ghost after_create = { λ s file. Some ([], bytes_with (s, []) file) };
 
     ghost after_open = { λ file. pairs_held (snapshot_of file) };
 
     ghost after_batch = { λ _ m commands. map_after_all m commands };
 
-    ghost after_flush = { λ s m _. Some (m, bytes_with (s, m)) };
+    ghost after_flush = { flushed_with };
 
     ghost after_clean = { λ _ _ _. None };
 

@@ -63,7 +63,7 @@ returns-in_ok-flush-in-Flush g c =
       done = turn_named g.S.OrderedStore.contents g.S.OrderedStore.settings g.S.OrderedStore.has_failed g.S.OrderedStore.state g.S.OrderedStore.disk_of g.D.Disk.view g.met.D.Disk.lawful g.S.OrderedStore.recovered calls old c.flush.new.self Flush (step_of c.args.step) said said (ap step_of c.in-Flush.is) refl
           (call_turn g.D.Disk.view g.met.D.Disk.lawful g.S.OrderedStore.recovered calls (g.S.OrderedStore.contents old) (g.S.OrderedStore.contents c.flush.new.self) (g.S.OrderedStore.settings old) (g.S.OrderedStore.settings c.flush.new.self) (g.S.OrderedStore.has_failed old) (g.S.OrderedStore.has_failed c.flush.new.self) (g.S.OrderedStore.state old) (g.S.OrderedStore.state c.flush.new.self) (g.S.OrderedStore.disk_of old) (g.S.OrderedStore.disk_of c.flush.new.self)
           Flush said (Some (g.S.OrderedStore.settings old, g.S.OrderedStore.contents old)) (c.in_ok-flush-in-Flush.field-0, [], refl, refl) refl refl fine call.contents call.rest ok.fails
-          ok.durable (λ honest. next_is (g.S.OrderedStore.after_flush (g.S.OrderedStore.settings old) (g.S.OrderedStore.state old) (g.D.Disk.view (g.S.OrderedStore.disk_of old)).seen) (g.S.OrderedStore.state c.flush.new.self, (g.D.Disk.view (g.S.OrderedStore.disk_of c.flush.new.self)).seen) (ok.state honest)) (λ is_synced. ok.is_synced is_synced) (λ is_synced. call.crash fine is_synced));
+          ok.durable (λ honest. next_is (g.S.OrderedStore.after_flush (g.S.OrderedStore.settings old) (g.S.OrderedStore.state old) (g.D.Disk.view (g.S.OrderedStore.disk_of old)).seen) c.in_ok-flush-in-Flush.field-0 (g.S.OrderedStore.state c.flush.new.self) (g.D.Disk.view (g.S.OrderedStore.disk_of c.flush.new.self)).seen (ok.state honest)) (λ is_synced. ok.is_synced is_synced) (λ is_synced. call.crash fine is_synced));
       refused = tt;
     }
 
@@ -95,7 +95,7 @@ returns-in_ok-upgrade-in-Upgrade g c =
       done = turn_named g.S.OrderedStore.contents g.S.OrderedStore.settings g.S.OrderedStore.has_failed g.S.OrderedStore.state g.S.OrderedStore.disk_of g.D.Disk.view g.met.D.Disk.lawful g.S.OrderedStore.recovered calls old c.upgrade.new.self Upgrade (step_of c.args.step) said said (ap step_of c.in-Upgrade.is) refl
           (call_turn g.D.Disk.view g.met.D.Disk.lawful g.S.OrderedStore.recovered calls (g.S.OrderedStore.contents old) (g.S.OrderedStore.contents c.upgrade.new.self) (g.S.OrderedStore.settings old) (g.S.OrderedStore.settings c.upgrade.new.self) (g.S.OrderedStore.has_failed old) (g.S.OrderedStore.has_failed c.upgrade.new.self) (g.S.OrderedStore.state old) (g.S.OrderedStore.state c.upgrade.new.self) (g.S.OrderedStore.disk_of old) (g.S.OrderedStore.disk_of c.upgrade.new.self)
           Upgrade said (Some (g.S.OrderedStore.settings old, g.S.OrderedStore.contents old)) (c.in_ok-upgrade-in-Upgrade.field-0, [], refl, refl) refl refl fine call.contents call.rest ok.fails
-          ok.durable (λ honest. next_is (g.S.OrderedStore.after_upgrade (g.S.OrderedStore.settings old) (g.S.OrderedStore.state old) (g.D.Disk.view (g.S.OrderedStore.disk_of old)).seen) (g.S.OrderedStore.state c.upgrade.new.self, (g.D.Disk.view (g.S.OrderedStore.disk_of c.upgrade.new.self)).seen) (ok.state honest)) (λ is_synced. ok.is_synced is_synced.honest) (λ is_synced. call.crash fine is_synced));
+          ok.durable (λ honest. next_is (g.S.OrderedStore.after_upgrade (g.S.OrderedStore.settings old) (g.S.OrderedStore.state old) (g.D.Disk.view (g.S.OrderedStore.disk_of old)).seen) c.in_ok-upgrade-in-Upgrade.field-0 (g.S.OrderedStore.state c.upgrade.new.self) (g.D.Disk.view (g.S.OrderedStore.disk_of c.upgrade.new.self)).seen (ok.state honest)) (λ is_synced. ok.is_synced is_synced.honest) (λ is_synced. call.crash fine is_synced));
       refused = tt;
     }
 
@@ -127,7 +127,7 @@ returns-in_ok-clean-in-Clean g c =
       done = turn_named g.S.OrderedStore.contents g.S.OrderedStore.settings g.S.OrderedStore.has_failed g.S.OrderedStore.state g.S.OrderedStore.disk_of g.D.Disk.view g.met.D.Disk.lawful g.S.OrderedStore.recovered calls old c.clean.new.self Clean (step_of c.args.step) said said (ap step_of c.in-Clean.is) refl
           (call_turn g.D.Disk.view g.met.D.Disk.lawful g.S.OrderedStore.recovered calls (g.S.OrderedStore.contents old) (g.S.OrderedStore.contents c.clean.new.self) (g.S.OrderedStore.settings old) (g.S.OrderedStore.settings c.clean.new.self) (g.S.OrderedStore.has_failed old) (g.S.OrderedStore.has_failed c.clean.new.self) (g.S.OrderedStore.state old) (g.S.OrderedStore.state c.clean.new.self) (g.S.OrderedStore.disk_of old) (g.S.OrderedStore.disk_of c.clean.new.self)
           Clean said (g.S.OrderedStore.recovered (g.D.Disk.view (g.S.OrderedStore.disk_of old)).seen) (c.in_ok-clean-in-Clean.field-0, [], refl, refl) refl refl fine call.contents call.rest ok.fails
-          (λ honest. ok.durable fine honest) (λ honest. next_is (g.S.OrderedStore.after_clean (g.S.OrderedStore.settings old) (g.S.OrderedStore.state old) (g.D.Disk.view (g.S.OrderedStore.disk_of old)).seen) (g.S.OrderedStore.state c.clean.new.self, (g.D.Disk.view (g.S.OrderedStore.disk_of c.clean.new.self)).seen) (ok.state honest)) (λ is_synced. ok.is_synced is_synced.honest)
+          (λ honest. ok.durable fine honest) (λ honest. next_is (g.S.OrderedStore.after_clean (g.S.OrderedStore.settings old) (g.S.OrderedStore.state old) (g.D.Disk.view (g.S.OrderedStore.disk_of old)).seen) c.in_ok-clean-in-Clean.field-0 (g.S.OrderedStore.state c.clean.new.self) (g.D.Disk.view (g.S.OrderedStore.disk_of c.clean.new.self)).seen (ok.state honest)) (λ is_synced. ok.is_synced is_synced.honest)
           (λ is_synced. either_is g.S.OrderedStore.recovered (g.D.Disk.view (g.S.OrderedStore.disk_of old)) (g.D.Disk.view (g.S.OrderedStore.disk_of c.clean.new.self)) (g.S.OrderedStore.recovered (g.D.Disk.view (g.S.OrderedStore.disk_of old)).seen) (call.crash fine is_synced)));
       refused = tt;
     }

@@ -24,7 +24,8 @@ returns-clause-crash g c fine is_synced =
 pub returns-clause-state : goal.returns-clause-state
 returns-clause-state g c honest =
     let e = clean_as_before g.D.Disk.view g.D.Disk.failed (is_crew c.args.crew) c.args.self.now c.clean.new.self c.clean.result c.clean.ensures.step in
-    clean-state g.D.Disk.view g.D.Disk.failed c.args.self.now c.clean.new.self c.args.crew c.clean.result (e.bytes honest)
+    clean-state g.D.Disk.view g.D.Disk.failed c.args.self.now c.clean.new.self c.args.crew
+    c.clean.result e.failed e.bad_crew e.read (e.bytes honest)
 
 pub returns-clause-fails : goal.returns-clause-fails
 returns-clause-fails g c =

@@ -35,7 +35,7 @@ pub returns-clause-state : goal.returns-clause-state
 returns-clause-state g c honest =
     let e = text_as_before g.D.Disk.view g.D.Disk.failed (is_crew c.args.crew) (texts.Flush c.args.self.now.store.version) c.args.self.now c.flush.new.self refl c.flush.result c.flush.ensures.step in
     written-state after_flush (λ s st. HasFrames s (texts.Flush st.version) st.tree) c.what_was_flushed_is_what_is_read.ensures.tree g.D.Disk.view c.args.self.now c.flush.new.self e.sound.0
-    c.flush.result (e.bytes honest)
+    c.flush.result e.store (e.bytes honest)
 
 pub returns-clause-fails : goal.returns-clause-fails
 returns-clause-fails g c =

@@ -29,7 +29,7 @@ pub returns-clause-state : goal.returns-clause-state
 returns-clause-state g c honest =
     let e = text_as_before g.D.Disk.view g.D.Disk.failed (is_crew c.args.crew) texts.Upgrade c.args.self.now c.upgrade.new.self tt c.upgrade.result c.upgrade.ensures.step in
     written-state after_upgrade (λ s st. HasFrames s texts.Upgrade st.tree) c.what_was_upgraded_is_what_is_read.ensures.tree g.D.Disk.view c.args.self.now c.upgrade.new.self e.sound.0
-    c.upgrade.result (e.bytes honest)
+    c.upgrade.result e.store (e.bytes honest)
 
 pub returns-clause-fails : goal.returns-clause-fails
 returns-clause-fails g c =
