@@ -20,7 +20,8 @@ use Rattle.recovery.specs.InStep.{IsInStep, IsStore, IsStoreOf}
 use Rattle.engine.specs.Batch.{refusal_by, height_fault}
 use Rattle.engine.specs.Refusal.{refusal}
 use Rattle.engine.specs.SoundTree.{IsSoundInMemory}
-use Rattle.engine.specs.State.{IsSound, IsSoundStore, State, store_in}
+use Rattle.engine.specs.State.{IsSound, State, store_in}
+use Rattle.engine.proofs.SoundStores.{IsSoundStore}
 
 -- a store's tree is sound
 pub tree-sound : (s : Settings) (t : TreeInMemory) (log : LogEnds) (version : Version) → AreAllHome t → IsStore s (store_in t log version) → IsSoundInMemory s t

@@ -23,7 +23,8 @@ use Rattle.recovery.proofs.KeptStore.{batch-in_step, batch-kept}
 use Rattle.engine.specs.Batch.{IsLaterFault}
 use Rattle.engine.specs.Compacted.{IsCompactFault, IsCompacted, all_puts, compacted, outdated_tree}
 use Rattle.engine.specs.SoundTree.{IsSoundInMemory, IsSoundTree}
-use Rattle.engine.specs.State.{IsSoundStore, store_in}
+use Rattle.engine.specs.State.{store_in}
+use Rattle.engine.proofs.SoundStores.{IsSoundStore}
 use Rattle.engine.proofs.BatchInStep.{KeepsPages, keeps_logged}
 use Rattle.engine.proofs.CompactedLemmas.{outdated_is_proper, outdated_keeps, outdated_logs_are_true, puts_are_short, puts_make_all}
 

@@ -23,7 +23,8 @@ use Rattle.flush_log.proofs.FitLemmas.{are_sized}
 use Rattle.recovery.specs.InStep.{IsInStep, IsStoreOf}
 use Rattle.recovery.specs.StoreOfDisk.{first_store, store_of_disk}
 use Rattle.engine.specs.Late.{create_refusal, field_fault, after_create, made_unless}
-use Rattle.engine.specs.State.{IsSoundStore, store_in}
+use Rattle.engine.specs.State.{store_in}
+use Rattle.engine.proofs.SoundStores.{IsSoundStore}
 
 -- a store that is created is not refused
 pub not_refused : {X U : Type 0} (why : X → Fault) (o : Option X) (r : Result U Fault) (u : U) (P : Type 0) → MatchOption o P (λ x. r ≡ Err (why x)) → r ≡ Ok u → o ≡ None

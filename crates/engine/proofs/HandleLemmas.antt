@@ -17,15 +17,11 @@ use Rattle.flush_log.specs.Disk.{View}
 use Rattle.mapping.specs.Levels.{contents}
 use Rattle.engine.specs.Batch.{IsLaterFault}
 use Rattle.engine.specs.Compacted.{IsCompacted}
-use Rattle.engine.specs.Durable.{contents_after}
-use Rattle.engine.specs.Handle.{IsCall, pairs_after_all, pairs_left}
+use Rattle.engine.specs.Handle.{IsCall}
 use Rattle.engine.specs.OneStep.{IsBatch}
 use Rattle.engine.specs.Refusal.{refusal}
 use Rattle.engine.specs.State.{State}
 use Rattle.engine.specs.Tokens.{is_new, was_deleted, wiped_count}
-use Rattle.engine.specs.declared.store.durable.Unwritten.{Unwritten}
-use Rattle.engine.specs.declared.store.durable.Unwritten.TheVariants.{Undone, InDoubt}
-use Rattle.engine.proofs.PairCounts.{pairs_after-replies}
 use Rattle.engine.proofs.RefusedCalls.{refused_as}
 
 -- ---- a batch by another call
@@ -219,19 +215,6 @@ module _ {D : Type 0} (view : D → View) (old : State D) where
           after ∙ ap (λ (x : Bytes). without (contents old.store.tree) x) is ∙ without_first (contents old.store.tree) pair first,
           rw first (call_done view old new (Del pair.0) (λ (was_present : Bool). if was_present then Deleted else Missing) (λ (popped : Option (Bytes × Bytes)). Deleted) y (Some pair) same own),
         )
-
--- ---- the count
-
-pub counted : (m after : Pairs Bytes) (cs : List (Command Global)) (rs : List (Reply Global)) (pairs count : ℕ) → IsRising m → length m + length cs ≤ 2 ^ 128 - 1 → pairs ≡ length m → rs ≡ replies_to m cs → after ≡ map_after_all m cs
-    → count ≡ pairs_after_all pairs rs → count ≡ length after
-counted m after cs rs pairs count rising fit before replies map is =
-    is ∙ ap (λ (n : ℕ). pairs_after_all n rs) before ∙ ap (λ (l : List (Reply Global)). pairs_after_all (length m) l) replies ∙ pairs_after-replies m cs rising fit ∙ ap length (sym map)
-
--- after a batch that is not durable, which had left the map `after`
-pub counted_left : (m after now : Pairs Bytes) (cs : List (Command Global)) (unwritten : Unwritten) (before pairs count : ℕ) → before ≡ length m → pairs ≡ length after → after ≡ map_after_all m cs → now ≡ contents_after m cs unwritten
-    → count ≡ pairs_left before pairs unwritten → count ≡ length now
-counted_left m after now cs (Undone fault) before pairs count was counted map left is = is ∙ was ∙ ap length (sym left)
-counted_left m after now cs (InDoubt fault) before pairs count was counted map left is = is ∙ counted ∙ ap length (map ∙ sym left)
 
 -- ---- tokens
 

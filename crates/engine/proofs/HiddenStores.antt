@@ -18,7 +18,8 @@ use Rattle.recovery.specs.InStep.{IsInStep}
 use Rattle.recovery.specs.StoreOfDisk.{and_then, first_store, store_of_disk, store_under}
 use Rattle.engine.specs.Hidden.{exchanged_byte, exchanged, exchanged_view, HoldsNoStore, IsLeftHiding, IsLeftRevealing, revealed}
 use Rattle.engine.specs.Late.{IsLeftCreating, after_create, create_refusal, made_unless}
-use Rattle.engine.specs.State.{IsSoundStore, store_in}
+use Rattle.engine.specs.State.{store_in}
+use Rattle.engine.proofs.SoundStores.{IsSoundStore}
 use Rattle.engine.proofs.HiddenLemmas.{first_other, revealed_is}
 
 -- ---- bytes

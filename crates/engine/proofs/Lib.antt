@@ -51,6 +51,7 @@ mod OpeningLemmas
 mod OutdatedTables
 mod OwnRuns
 mod PairCounts
+mod PageCounts
 mod PartAnswers
 mod PartedLemmas
 mod PendingLemmas
@@ -68,6 +69,7 @@ pub mod RowsLemmas
 mod RunRoutes
 mod SeenLeaves
 mod SnapshotLemmas
+pub mod SoundStores
 mod SplitLemmas
 mod StepDone
 mod StepsLemmas

@@ -23,7 +23,8 @@ use Rattle.recovery.specs.declared.recovered.Recovered.{Recovered}
 use Rattle.recovery.proofs.ReadBytes.{first_read, kept_then}
 use Rattle.recovery.proofs.StoreLemmas.{StandsBy, store-stands}
 use Rattle.engine.specs.Opened.{IsOpened, IsOpenedOn, disk_left, read_on}
-use Rattle.engine.specs.State.{IsSound, IsSoundStore, State, store_in}
+use Rattle.engine.specs.State.{IsSound, State, store_in}
+use Rattle.engine.proofs.SoundStores.{IsSoundStore}
 use Rattle.engine.proofs.CreateLemmas.{slot_with, opened-is}
 
 module _ {D : Type 0} (view : D → View) (s : Settings) (st : Store) (old new : D) (file : Bytes)

@@ -12,10 +12,11 @@ use Rattle.keys.specs.Range.{is_within}
 use Rattle.keys.specs.Step.{found, reply_to, map_after, replies_to, map_after_all}
 use Rattle.keys.specs.declared.command.Command.{Command}
 use Rattle.keys.specs.declared.command.Command.TheVariants.{Get, Put, Add, Del, Scan, Wipe}
+use Rattle.keys.specs.declared.command.Reply.{Reply}
 use Rattle.keys.specs.declared.command.Reply.TheVariants.{New, Replaced, Added, Exists, Deleted, Missing}
 use Rattle.keys.proofs.MapLemmas.{IsBelowAll, below_all}
 use Rattle.keys.proofs.RunLemmas.{rising-map_after}
-use Rattle.engine.specs.Handle.{pairs_after, pairs_after_all}
+use Rattle.engine.specs.PairCount.{pairs_after, pairs_after_all}
 
 abbrev Pairs : Type 0
 Pairs = List (List ℕ × List ℕ)
@@ -118,3 +119,9 @@ pairs_after-replies m [] r small = refl
 pairs_after-replies m (c ∷ cs) r small =
     ap (λ (n : ℕ). pairs_after_all n (replies_to (map_after m c) cs)) (pairs_after-reply m c r (omega (arith, small)))
     ∙ pairs_after-replies (map_after m c) cs (rising-map_after m c r) (omega (arith, small, length-map_after-le m c r))
+
+-- the count after a batch with these replies
+pub counted : (m after : Pairs) (cs : List (Command Global)) (rs : List (Reply Global)) (pairs count : ℕ) → IsRising m → length m + length cs ≤ 2 ^ 128 - 1 → pairs ≡ length m → rs ≡ replies_to m cs → after ≡ map_after_all m cs
+    → count ≡ pairs_after_all pairs rs → count ≡ length after
+counted m after cs rs pairs count rising fit before replies map is =
+    is ∙ ap (λ (n : ℕ). pairs_after_all n rs) before ∙ ap (λ (l : List (Reply Global)). pairs_after_all (length m) l) replies ∙ pairs_after-replies m cs rising fit ∙ ap length (sym map)

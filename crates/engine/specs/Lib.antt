@@ -20,6 +20,7 @@ pub mod OneStep
 pub mod OnlyRoute
 pub mod Opened
 pub mod Opening
+pub mod PairCount
 pub mod Pending
 pub mod Plays
 pub mod Refusal

@@ -1,9 +1,10 @@
 -- A flush in parts: the store in memory, which is shared with readers, and what is to be written.
-use Rattle.std.specs.Prelude.{◌≡◌, ◌≢◌, Bool, [], Option, Some, None}
+use Rattle.std.specs.Prelude.{◌≡◌, ◌≢◌, ℕ, Bool, [], length, Option, Some, None}
 use Rattle.keys.specs.declared.settings.Settings.{Settings}
 use Rattle.keys.specs.declared.version.Version.{Version}
+use Rattle.mapping.specs.Levels.{contents}
 use Rattle.mapping.specs.Tree.{Store}
-use Rattle.mapping.specs.TreeInMemory.{TreeInMemory, AreAllHome}
+use Rattle.mapping.specs.TreeInMemory.{TreeInMemory, AreAllHome, tree_of}
 use Rattle.flush_log.specs.AfterFlush.{store_after}
 use Rattle.flush_log.specs.CommitPlan.{CommitPlan}
 use Rattle.flush_log.specs.Disk.{View}
@@ -20,10 +21,11 @@ pub record StateInMemory : Type 0 where
   pub settings : Settings
   pub store : Store
 
--- a sound store in memory, with no page checked out
-pub record IsSoundStoreInMemory (s : Settings) (t : TreeInMemory) (log : LogEnds) (version : Version) : Type 0 where
+-- a sound store in memory, with no page checked out, and the number of its pairs
+pub record IsCountedStoreInMemory (s : Settings) (t : TreeInMemory) (log : LogEnds) (version : Version) (pairs : ℕ) : Type 0 where
   pub home : AreAllHome t
   pub is : IsStore s (store_in t log version)
+  pub counted : pairs ≡ length (contents (tree_of t))
 
 -- this commit writes what the log of the store lacks; without a commit the log lacks nothing
 abbrev pub IsCommitOf : Settings → Store → Option CommitPlan → Type 0

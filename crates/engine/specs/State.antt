@@ -1,7 +1,8 @@
 -- The state of a store on a disk, and the invariant of every store.
-use Rattle.std.specs.Prelude.{◌≡◌, ◌≤◌, Bool, false, IsTrue}
+use Rattle.std.specs.Prelude.{◌≡◌, ◌≤◌, ℕ, Bool, false, IsTrue, length}
 use Rattle.keys.specs.declared.settings.Settings.{Settings}
 use Rattle.keys.specs.declared.version.Version.{Version}
+use Rattle.mapping.specs.Levels.{contents}
 use Rattle.mapping.specs.Tree.{Store}
 use Rattle.mapping.specs.TreeInMemory.{TreeInMemory, AreAllHome, tree_of}
 use Rattle.flush_log.specs.Disk.{View}
@@ -35,7 +36,8 @@ store_in t log version = record { tree = tree_of t; head = log.head; tail = log.
 abbrev pub state_of : {D : Type 0} → Settings → TreeInMemory → LogEnds → Version → D → Bool → State D
 state_of s t log version disk has_failed = record { settings = s; store = store_in t log version; disk = disk; has_failed = has_failed }
 
--- a sound store in memory, with no page checked out
-pub record IsSoundStore {D : Type 0} (view : D → View) (s : Settings) (t : TreeInMemory) (log : LogEnds) (version : Version) (disk : D) (has_failed : Bool) : Type 0 where
+-- a sound store in memory, with no page checked out, and the number of its pairs
+pub record IsCountedStore {D : Type 0} (view : D → View) (s : Settings) (t : TreeInMemory) (log : LogEnds) (version : Version) (disk : D) (has_failed : Bool) (pairs : ℕ) : Type 0 where
   pub home : AreAllHome t
   pub sound : IsSound view (state_of s t log version disk has_failed)
+  pub counted : pairs ≡ length (contents (tree_of t))

@@ -1,4 +1,4 @@
-//! A store with the arguments of its calls, and with the number of its pairs.
+//! A store with the arguments of its calls.
 ghost use Rattle.std.specs.Prelude.{◌≡◌, ◌-◌, [], true, false, not, is_some, if◌then◌else◌, length, drop, reverse, slice_get, Err, IfOk, IfErr, MatchOption, OnOk, OnErr};
 ghost use Rattle.std.specs.Option.{option_copied, option_map};
 ghost use Rattle.keys.specs.OrderedMap.{value_at, with_pair, without};
@@ -19,11 +19,9 @@ ghost use Rattle.engine.specs.Tidied.{IsTidied, IsTidyFault, counted_pages};
 
 mod batch;
 mod durable;
-mod tally;
 
 pub use crate::handle::batch::{Batch, Replies, Token};
 use crate::handle::batch::{is_new, was_deleted, wipe_command, wiped_count};
-use crate::handle::tally::pairs_after_all;
 use crate::refusal::admit_crew;
 use crate::store::Store;
 use crew::{Crew, NoGate};
@@ -35,8 +33,8 @@ use std::marker::Model;
 use std::ops::RangeBounds;
 use std::thread::Threads;
 
-/// A store together with the runtime and the crew for its calls, and the number of its pairs: an ordered map of byte
-/// strings, with one call for each operation. `Store::with` makes it.
+/// A store together with the runtime and the crew for its calls: an ordered map of byte strings, with one call for each
+/// operation. `Store::with` makes it.
 ///
 /// Reads return references into the store's pages. They do not allocate, and also work in a store that has failed.
 /// Writes change the map in memory. Only `flush` and `execute_durable` make writes durable, and all earlier writes with
@@ -57,8 +55,6 @@ pub struct Handle<'r, R, D: Disk> {
     rt: &'r R,
     crew: Crew,
     store: Store<D>,
-    // The number of pairs of the store.
-    pairs: u128,
 }
 
 impl<'r, R, D: Disk> Model for Handle<'r, R, D> {
@@ -69,16 +65,14 @@ impl<'r, R, D: Disk> Model for Handle<'r, R, D> {
 
     ghost view = { λ h. h.store };
 
-    ghost invariant = { λ h. IsHandle h.store h.crew h.pairs };
+    ghost invariant = { λ h. IsHandle h.crew };
 }
 
 impl<D: Disk> Store<D> {
     /// Returns a handle of this store, whose calls use this runtime and this crew. For batches of a few commands the
-    /// default crew, which is the calling thread alone, is fastest. Counts the pairs as `verify` does, in one walk over
-    /// the pages.
+    /// default crew, which is the calling thread alone, is fastest.
     ///
-    /// Fails with `Fault::BadCrew` if the crew is out of range, and otherwise with `Fault::NoMemory` if an allocation
-    /// fails. The store is returned with the fault. In a function that returns a `Fault`, `?` takes the fault and drops
+    /// Fails only with `Fault::BadCrew`, if the crew is out of range. The store is returned with the fault. In a function that returns a `Fault`, `?` takes the fault and drops
     /// the store. In a function with another error, such as `anyhow::Error`, write `.map_err(|e| e.0)?`.
     pub fn with<R: Threads + Sync>(
         self,
@@ -99,15 +93,7 @@ impl<'r, R: Threads + Sync, D: Disk> Handle<'r, R, D> {
         if let Err(fault) = admit_crew(crew) {
             return Err((fault, store));
         }
-        match store.verify(rt) {
-            Ok(report) => Ok(Handle {
-                rt,
-                crew,
-                store,
-                pairs: report.pairs,
-            }),
-            Err(fault) => Err((fault, store)),
-        }
+        Ok(Handle { rt, crew, store })
     }
 
     /// Sets the value at the key, and returns whether the key was absent.
@@ -267,8 +253,7 @@ impl<'r, R: Threads + Sync, D: Disk> Handle<'r, R, D> {
     /// Replaces the map in memory by the one on the disk, as `Store::reopen` does: the map of the last flush or upgrade
     /// that succeeded, or, if one failed with `Fault::Device`, possibly the map that it was writing. Writes that were
     /// not flushed are lost. Use it to continue with a store that has failed, or to drop writes that were not flushed.
-    /// Counts the pairs by a walk over them. The pages in memory are freed after those on the disk were read, so for a
-    /// time both are in memory.
+    /// The pages in memory are freed after those on the disk were read, so for a time both are in memory.
     ///
     /// Fails like `Store::open`, except for `Fault::BadCrew`: with `Fault::Device` if a call of the disk fails, with
     /// `Fault::NoMemory`, or with the fault of a disk that has no store or a damaged one. After an `Err` the map in
@@ -276,9 +261,7 @@ impl<'r, R: Threads + Sync, D: Disk> Handle<'r, R, D> {
     pub fn reopen(&mut self) -> Result<(), Fault>
         ensures { IsReopened D.view D.failed self.old result self.new }
     {
-        self.store.reopen_in_place(self.rt, self.crew)?;
-        self.pairs = self.store.count(..);
-        Ok(())
+        self.store.reopen_in_place(self.rt, self.crew)
     }
 
     fn execute_one(&mut self, command: Command<Global>) -> Result<Reply<Global>, Fault>
@@ -296,11 +279,7 @@ impl<'r, R: Threads + Sync, D: Disk> Handle<'r, R, D> {
         ensures { IsBatch D.view true self.old commands.now result (λ replies. replies.items)
             self.new }
     {
-        // Only for the proof.
-        self.store.pairs_fit(commands);
-        let replies = self.store.batch(self.rt, self.crew, &NoGate, commands)?;
-        self.pairs = pairs_after_all(self.pairs, &replies);
-        Ok(replies)
+        self.store.batch(self.rt, self.crew, &NoGate, commands)
     }
 }
 
@@ -346,7 +325,7 @@ impl<'r, R, D: Disk> Handle<'r, R, D> {
     pub fn len(&self) -> u128
         ensures { result ≡ length (contents self.now.store.tree) }
     {
-        self.pairs
+        self.store.len()
     }
 
     /// Returns whether there are no pairs, in constant time.
@@ -354,7 +333,7 @@ impl<'r, R, D: Disk> Handle<'r, R, D> {
         ensures yes { result ≡ true → contents self.now.store.tree ≡ [] }
         ensures no { contents self.now.store.tree ≡ [] → result ≡ true }
     {
-        self.pairs == 0
+        self.store.is_empty()
     }
 
     /// Returns the pair with the least key.

@@ -16,6 +16,7 @@ mod creation;
 mod durable;
 mod flush;
 mod numbers;
+mod pair_count;
 mod play;
 mod reads;
 mod reopen;
@@ -28,6 +29,7 @@ use crate::execute::execute;
 use crate::laws::a_batch_stays_in_step;
 use crate::refusal::{admit, admit_crew};
 use crate::store::creation::{create_hidden, reveal_store};
+use crate::store::pair_count::pairs_after_all;
 pub use crate::store::durable::Unwritten;
 pub use crate::store::split_flush::{BegunFlush, StoreInMemory, WrittenFlush};
 use crew::{Crew, Gate};
@@ -58,17 +60,19 @@ pub struct Store<D: Disk> {
     version: Version,
     disk: D,
     has_failed: bool,
+    // The number of pairs.
+    pairs: u128,
 }
 
 impl<D: Disk> Model for Store<D> {
-    ghost use Rattle.engine.specs.State.{State, state_of, IsSoundStore};
+    ghost use Rattle.engine.specs.State.{State, state_of, IsCountedStore};
 
     ghost Value = { State D };
 
     ghost view = { λ s. state_of s.settings s.tree s.log s.version s.disk s.has_failed };
 
     ghost invariant = { λ s.
-        IsSoundStore D.view s.settings s.tree s.log s.version s.disk s.has_failed };
+        IsCountedStore D.view s.settings s.tree s.log s.version s.disk s.has_failed s.pairs };
 }
 
 impl<D: Disk> Store<D> {
@@ -133,6 +137,7 @@ impl<D: Disk> Store<D> {
     {
         // Only for the proof.
         a_batch_stays_in_step::<Global>();
+        self.pairs_fit(commands);
         if self.has_failed {
             return Err(Fault::Failed);
         }
@@ -148,6 +153,7 @@ impl<D: Disk> Store<D> {
             commands,
         )?;
         let _of_64_bits = self.tree.root();
+        self.pairs = pairs_after_all(self.pairs, &replies);
         Ok(replies)
     }
 

@@ -87,9 +87,9 @@ abbrev pub IsRefusedTree : Fault → Format → Slot → Gathering → Type 0
 IsRefusedTree fault f t g = (found : List Found) → AreGathered f Every g found → (fault ≡ NoMemory) ⊎ ((x : Finding) × (wrong_in f.settings t (frames_in found) ≡ Some x) × (fault ≡ BadStructure x))
 
 module _ (file : Bytes) (r : LogRead) (read : IsLogRead r file) where
-  pub tree-recovered : (tree : TreeInMemory) → IsTreeOf tree r.format r.slot r.gathering
-      → (store_of_disk file ≡ Ok (r.format.settings, store_recovered (record { settings = r.format.settings; slot = r.slot; tree = tree }))) × AreAllHome tree
-  tree-recovered tree right =
+  pub tree-recovered : (tree : TreeInMemory) (pairs : ℕ) → IsTreeOf tree r.format r.slot r.gathering
+      → (store_of_disk file ≡ Ok (r.format.settings, store_recovered (record { settings = r.format.settings; slot = r.slot; tree = tree; pairs = pairs }))) × AreAllHome tree
+  tree-recovered tree pairs right =
       let (none, is, home) = right read.found read.gathered in (
         right_store file r.format.settings read.settings r.slot read.slot read.found read.log none ∙ ap (λ (u : Tree). found_store r.format.settings (store_after u r.slot)) (sym is),
         home,

@@ -1,5 +1,5 @@
 //! Builds the tree of a log's pages from the gathered frames, and verifies it.
-ghost use Rattle.std.specs.Prelude.{◌≡◌, ◌⊎◌, ◌<◌, ◌++◌, ◌∷◌, [], List, map, Some, None, IfOk, IfErr, OnOk};
+ghost use Rattle.std.specs.Prelude.{◌≡◌, ◌⊎◌, ◌<◌, ◌++◌, ◌∷◌, [], List, length, map, Some, None, IfOk, IfErr, OnOk};
 ghost use Rattle.std.specs.List.{AllByRecursion};
 ghost use Rattle.std.specs.List.Sorted.{IsStrictlySortedBy};
 ghost use Rattle.std.specs.Map.{keys_of};
@@ -7,6 +7,7 @@ ghost use Rattle.std.specs.Ordering.{nat_cmp};
 ghost use Rattle.keys.specs.Limits.{first_bad_field};
 ghost use Rattle.keys.specs.declared.fault.Fault.TheVariants.{NoMemory, BadStructure};
 ghost use Rattle.mapping.specs.Finding.{Finding};
+ghost use Rattle.mapping.specs.Levels.{contents};
 ghost use Rattle.mapping.specs.Proper.{AreRisingPids};
 ghost use Rattle.mapping.specs.Slots.{entry_if};
 ghost use Rattle.mapping.specs.TreeInMemory.{AreAllHome, tree_of};
@@ -133,9 +134,9 @@ fn table_of(
     Ok(table)
 }
 
-/// Returns the tree of the gathered pages, with the root and the height in the slot. The tree is proper under the
-/// settings, no page is checked out, and each page is recorded as being in the log with all its runs. The crew builds
-/// the pages.
+/// Returns the tree of the gathered pages, with the root and the height in the slot, and the number of its pairs. The
+/// tree is proper under the settings, no page is checked out, and each page is recorded as being in the log with all its
+/// runs. The crew builds the pages.
 ///
 /// Otherwise fails with `Fault::BadStructure` and the first finding: a page whose frames do not fit together, by the
 /// least page id, or else the first finding of the walk from the root. Any other failure is `Fault::NoMemory`.
@@ -145,11 +146,12 @@ pub(crate) fn checked_tree(
     format: &Format,
     slot: &Slot,
     gathering: Gathering,
-) -> Result<Tree<Global>, Fault>
+) -> Result<(Tree<Global>, u128), Fault>
     requires { first_bad_field format.now.settings ≡ None }
     ensures ok { (found : List Found) → AreGathered format.now Every gathering found →
-        IfOk result (λ tree. (wrong_in format.now.settings slot.now (frames_in found) ≡ None)
-        × (tree_of tree ≡ tree_by_log slot.now (frames_in found)) × AreAllHome tree) }
+        IfOk result (λ made. (wrong_in format.now.settings slot.now (frames_in found) ≡ None)
+        × (tree_of made.0 ≡ tree_by_log slot.now (frames_in found)) × AreAllHome made.0) }
+    ensures counted { IfOk result (λ made. made.1 ≡ length (contents (tree_of made.0))) }
     ensures err { (found : List Found) → AreGathered format.now Every gathering found →
         IfErr result (λ fault. (fault ≡ NoMemory) ⊎
         ((f : Finding) × (wrong_in format.now.settings slot.now (frames_in found) ≡ Some f)
@@ -165,8 +167,8 @@ pub(crate) fn checked_tree(
     };
     let table = table_of(rt, crew, &work, by_pid)?;
     let mut tree = Tree::new(table, slot.root, slot.height);
-    verify(rt, alloc, &tree, &format.settings)?;
+    let report = verify(rt, alloc, &tree, &format.settings)?;
     tree.flushed();
     tree.reserve()?;
-    Ok(tree)
+    Ok((tree, report.pairs))
 }

@@ -1,8 +1,9 @@
 //! Recovery: reads a store from the bytes of a disk, or finds their single fault.
-ghost use Rattle.std.specs.Prelude.{◌≡◌, ◌⊎◌, None, Ok, Err, IfOk, MatchResult};
+ghost use Rattle.std.specs.Prelude.{◌≡◌, ◌⊎◌, length, None, Ok, Err, IfOk, MatchResult};
 ghost use Rattle.keys.specs.Bytes.{Bytes};
 ghost use Rattle.keys.specs.Limits.{first_bad_field};
-ghost use Rattle.mapping.specs.TreeInMemory.{AreAllHome};
+ghost use Rattle.mapping.specs.Levels.{contents};
+ghost use Rattle.mapping.specs.TreeInMemory.{AreAllHome, tree_of};
 ghost use Rattle.recovery.specs.Recovered.{IsReadOf, IsLate, OnlyReads, IsLogRead, store_recovered};
 ghost use Rattle.recovery.specs.StoreOfDisk.{store_of_disk};
 
@@ -27,6 +28,8 @@ pub struct Recovered {
     pub slot: Slot,
     /// Its pages; the log contains each of them with all its runs.
     pub tree: Tree<Global>,
+    /// The number of its pairs.
+    pub pairs: u128,
 }
 
 // What was read of a disk.
@@ -88,6 +91,8 @@ pub fn recover<D: Disk>(
         × AreAllHome found.tree)
         (λ fault. (store_of_disk file ≡ Err fault)
         ⊎ IsLate (D.failed disk.old) (D.failed disk.new) fault) }
+    ensures counted { IfOk result
+        (λ found. found.pairs ≡ length (contents (tree_of found.tree))) }
     ensures only_reads { OnlyReads D.view D.failed disk.old disk.new result }
 {
     let LogRead {
@@ -95,10 +100,11 @@ pub fn recover<D: Disk>(
         slot,
         gathering,
     } = read_parts(rt, crew, alloc, disk)?;
-    let tree = checked_tree(rt, crew, &format, &slot, gathering)?;
+    let (tree, pairs) = checked_tree(rt, crew, &format, &slot, gathering)?;
     Ok(Recovered {
         settings: format.settings,
         slot,
         tree,
+        pairs,
     })
 }

@@ -7,7 +7,6 @@ ghost use Rattle.engine.specs.Refusal.{refusal};
 
 use crate::handle::Handle;
 use crate::handle::batch::{Batch, Replies};
-use crate::handle::tally::pairs_left;
 use crate::store::Unwritten;
 use flush_log::Disk;
 use keys::{Command, Fault, Reply};
@@ -76,7 +75,6 @@ impl<'r, R: Threads + Sync, D: Disk> Handle<'r, R, D> {
     {
         // Only for the proof.
         the_contents_of_a_proper_tree_rise();
-        let before = self.pairs;
         let undo = match self.store.undo_for(self.crew, commands) {
             Ok(undo) => undo,
             Err(fault) => return Err(Unwritten::Undone(fault)),
@@ -87,10 +85,7 @@ impl<'r, R: Threads + Sync, D: Disk> Handle<'r, R, D> {
         };
         match self.store.flush_or_undo(self.rt, self.crew, &undo) {
             Ok(()) => Ok(replies),
-            Err(unwritten) => {
-                self.pairs = pairs_left(before, self.pairs, &unwritten);
-                Err(unwritten)
-            }
+            Err(unwritten) => Err(unwritten),
         }
     }
 }

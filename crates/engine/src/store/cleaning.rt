@@ -91,6 +91,9 @@ impl<D: Disk> Store<D> {
         ensures err { IfErr result (λ fault. (fault ≡ NoMemory) × (self.new ≡ self.old)
             × (flush_frames self.old.store.version self.old.store.tree ≢ [])) }
     {
+        if !self.may_be_bloated() {
+            return Ok(());
+        }
         if self.is_flush_due() {
             return self.compact_if_bloated(rt, crew);
         }

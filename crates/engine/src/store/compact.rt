@@ -206,22 +206,17 @@ fn compacted_tree(
     Ok(new)
 }
 
-// Whether there are fewer rows than `most`, and their keys and values have at most `room` bytes. It stops at the first
-// row that is one too many.
-fn are_few(rows: Rows<'_>, most: u64, room: u64) -> bool
-    ensures { IsTrue result → length rows.entry < most }
-{
-    let mut left = most;
+// Whether the keys and values of these rows have at most `room` bytes. Stops at the first row that is too much.
+fn fit_into(rows: Rows<'_>, room: u64) -> bool {
     let mut room = room;
     for (key, value) in rows {
         let bytes = (key.len() + value.len()) as u64;
-        if left == 0 || room < bytes {
+        if room < bytes {
             return false;
         }
-        left -= 1;
         room -= bytes;
     }
-    left > 0
+    true
 }
 
 // A number of pairs below which a tree of so many pages and levels is bloated.
@@ -245,14 +240,27 @@ fn no_compacted(fault: Fault) -> Result<Option<Tree<Global>>, Fault>
 }
 
 impl<D: Disk> Store<D> {
-    // Whether the tree has more pages than its pairs account for. Returns false for a tree whose pairs have more than
-    // `room` bytes.
-    fn is_bloated(&self, room: u64) -> bool
+    // Returns whether the tree has fewer pairs than a tree with so many pages should have.
+    fn has_too_few_pairs(&self, pages: u64) -> bool
+        ensures { pages ≡ counted_pages self.now.store.tree → IsTrue result →
+            IsTrue (is_bloated self.now.settings self.now.store.tree) }
+    {
+        let most = most_pairs(pages, self.tree.height(), self.settings.fan);
+        self.pairs < u128::from(most)
+    }
+
+    // Returns whether the tree has more pages than its pairs account for. The number of slots of its table is at least
+    // that of its pages, and shows at once that most trees have not.
+    pub(super) fn is_bloated(&self) -> bool
         ensures { IsTrue result → IsTrue (is_bloated self.now.settings self.now.store.tree) }
     {
-        let pages = count_pages(&self.tree);
-        let most = most_pairs(pages, self.tree.height(), self.settings.fan);
-        are_few(Rows::with_prefix(self.alloc, &self.tree, b""), most, room)
+        self.has_too_few_pairs(self.tree.most_pages() as u64)
+            && self.has_too_few_pairs(count_pages(&self.tree))
+    }
+
+    // Returns whether the keys and values of all pairs have at most `room` bytes.
+    fn needs_at_most(&self, room: u64) -> bool {
+        fit_into(Rows::with_prefix(self.alloc, &self.tree, b""), room)
     }
 
     // Whether to try to compact a bloated tree: if its pairs alone do not fill the free segments, or if the next flush
@@ -262,14 +270,14 @@ impl<D: Disk> Store<D> {
         ensures { IfErr result (λ fault. fault ≡ NoMemory) }
     {
         let free = self.segments() - self.segments_in_use();
-        if self.is_bloated(free * u64::from(self.settings.seg_size)) {
+        if self.needs_at_most(free * u64::from(self.settings.seg_size)) {
             return Ok(true);
         }
         if !self.may_need_cleans(rt, crew)? {
             return Ok(false);
         }
         let pages = self.page_bytes(rt, crew)?;
-        Ok(self.is_bloated(self.room_beside(pages)))
+        Ok(self.needs_at_most(self.room_beside(pages)))
     }
 
     // The compacted tree whose flush was refused with this fault, if cleans can make room for the flush.
@@ -321,26 +329,34 @@ impl<D: Disk> Store<D> {
         }
     }
 
-    // Returns whether to count the pairs now. A small tree is counted at each flush, because that is cheap; a larger
-    // tree is counted at one of as many flushes as it has multiples of 2,048 pages. The decision depends only on the
-    // contents of the store, as everything must that determines what is written: not on the free page ids, which a
-    // reopened store does not know. The sequence numbers are scattered, because cleans, which also count, come in
-    // groups of equal length.
-    fn is_time_to_count(&self) -> bool {
+    // Returns whether to add up the pairs' bytes now. Those of a small tree are added up at each flush, because that is
+    // cheap; those of a larger one at one of as many flushes as it has multiples of 2,048 pages. The decision depends
+    // only on the contents of the store, as everything must that determines what is written: not on the free page ids,
+    // which a reopened store does not know. The sequence numbers are scattered, because cleans, which also count, come
+    // in groups of equal length.
+    fn is_time_to_add_up(&self) -> bool {
         let every = count_pages(&self.tree) / 2_048 + 1;
         let scattered = self.log.sequence.wrapping_mul(0x9e37_79b9_7f4a_7c15) >> 32;
         scattered % every == 0 || self.is_tight()
     }
 
-    // Returns whether at least two thirds of the log are in use and the tree is bloated. Checks only when
-    // `is_time_to_count` says so. Returns false if the log has no room for the pairs twice, because a compaction writes
-    // them while their old frames are live.
+    // Returns whether at least two thirds of the log are in use and the tree is bloated.
+    pub(super) fn may_be_bloated(&self) -> bool
+        ensures { IsTrue result → IsTrue (is_two_thirds_full self.now.settings self.now.store)
+            × IsTrue (is_bloated self.now.settings self.now.store.tree) }
+    {
+        self.is_two_thirds_full() && self.is_bloated()
+    }
+
+    // Returns whether at least two thirds of the log are in use and the tree is bloated. Returns false if the log has no
+    // room for the pairs twice, because a compaction writes them while their old frames are live, and at flushes at
+    // which their bytes are not added up.
     fn may_be_compacted(&self) -> bool
         ensures { IsTrue result → IsTrue (is_two_thirds_full self.now.settings self.now.store)
             × IsTrue (is_bloated self.now.settings self.now.store.tree) }
     {
         let room = most_live(&self.settings) / 2;
-        self.is_two_thirds_full() && self.is_time_to_count() && self.is_bloated(room)
+        self.may_be_bloated() && self.is_time_to_add_up() && self.needs_at_most(room)
     }
 
     // Compacts the tree if its flush finds room now or after cleans.
@@ -369,8 +385,9 @@ impl<D: Disk> Store<D> {
     ///
     /// Fails only with `Fault::NoMemory`. Then nothing changes.
     ///
-    /// If that many segments are in use, the pages are counted at each flush. So are the pairs if there are fewer than
-    /// 2,048 pages; otherwise they are counted more rarely, unless the log is tight.
+    /// Whether there are too many pages is two numbers, which the store keeps; a store that has become smaller since it
+    /// was opened counts its pages. Only if there are too many, the bytes of the pairs are added up, to see whether they
+    /// fit: at each flush if there are fewer than 2,048 pages, otherwise more rarely, unless the log is tight.
     pub fn compact_if_bloated(
         &mut self,
         rt: &(impl Threads + Sync),

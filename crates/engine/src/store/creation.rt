@@ -65,6 +65,7 @@ pub(super) fn create_hidden<D: Disk>(
             version: first.version,
             disk: Hidden { disk },
             has_failed: false,
+            pairs: 0,
         }),
         Err(fault) => Err((fault, disk)),
     }
@@ -82,6 +83,7 @@ pub(super) fn reveal_store<D: Disk>(hidden: Store<Hidden<D>>) -> Result<Store<D>
         version,
         disk,
         has_failed,
+        pairs,
     } = hidden;
     let Hidden { disk } = disk;
     let mut disk = disk;
@@ -94,6 +96,7 @@ pub(super) fn reveal_store<D: Disk>(hidden: Store<Hidden<D>>) -> Result<Store<D>
             version,
             disk,
             has_failed,
+            pairs,
         }),
         Err(failed) => Err((failed.into(), disk)),
     }

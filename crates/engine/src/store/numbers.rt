@@ -10,16 +10,19 @@ ghost use Rattle.flush_log.specs.Segments.{last_segment};
 ghost use Rattle.engine.specs.Bounds.{pairs_within};
 ghost use Rattle.engine.specs.Pending.{FlushAdds, IsFlushRefused};
 ghost use Rattle.engine.specs.Refusal.{IsAdmitted, is_crew};
+ghost use Rattle.verify.specs.Report.{report};
 
 use crate::refusal::admit_crew;
 use crate::store::Store;
 use crate::store::flush::plan;
+use crate::store::tidy::count_pages;
 use crew::Crew;
 use flush_log::{CommitKind, Disk, LogEnds, is_all_written, last_segment};
 use keys::{Fault, Settings};
 use scan::Range;
 use std::ops::RangeBounds;
 use std::thread::Threads;
+use verify::Report;
 
 // Takes the remaining pairs, and returns how many there were, or 2^128 - 1 if there were more.
 fn count(pairs: &mut Range<'_>) -> u128
@@ -144,13 +147,40 @@ impl<D: Disk> Store<D> {
         Ok(slot.ends.tail - self.log.tail)
     }
 
-    /// Returns the number of pairs, or 4,294,967,295 if there are more. Does not allocate. Walks over all pairs, as
-    /// `range` without bounds does.
+    /// Returns the number of pairs, in constant time.
+    pub fn len(&self) -> u128
+        ensures { result ≡ length (contents self.now.store.tree) }
+    {
+        self.pairs
+    }
+
+    /// Returns whether there are no pairs, in constant time.
+    pub fn is_empty(&self) -> bool
+        ensures yes { result ≡ true → contents self.now.store.tree ≡ [] }
+        ensures no { contents self.now.store.tree ≡ [] → result ≡ true }
+    {
+        self.pairs == 0
+    }
+
+    /// Returns what `verify` reports of this store, without checking its pages: the numbers of pages, of levels and of
+    /// pairs. Does not allocate. Counts the pages in their table.
+    pub fn report(&self) -> Report
+        ensures { result ≡ report self.now.store.tree }
+    {
+        // Only for the proof: the pages can be counted in 64 bits.
+        let _most = self.tree.most_pages();
+        Report {
+            pages: u128::from(count_pages(&self.tree)),
+            height: self.tree.height(),
+            pairs: self.pairs,
+        }
+    }
+
+    /// Returns the number of pairs, or 4,294,967,295 if there are more, in constant time.
     pub fn pairs(&self) -> u64
         ensures { result ≡ min (length (contents self.now.store.tree)) (2 ^ 32 - 1) }
     {
-        let pairs = self.count(..);
-        pairs.min(u128::from(u32::MAX)) as u64
+        self.pairs.min(u128::from(u32::MAX)) as u64
     }
 
     /// Returns how many pairs have keys in the range, whose forms are those of `pairs_in`. Does not allocate. Walks over

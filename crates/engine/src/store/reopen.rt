@@ -1,9 +1,10 @@
 //! Opens stores: from a disk, or again from a store's own disk.
-ghost use Rattle.std.specs.Prelude.{◌≡◌, ◌≢◌, ◌⊎◌, Err, true, false, IsTrue, IfOk, IfErr, OnOk};
+ghost use Rattle.std.specs.Prelude.{◌≡◌, ◌≢◌, ◌⊎◌, Err, true, false, length, IsTrue, IfOk, IfErr, OnOk};
 ghost use Rattle.keys.specs.Bytes.{Bytes};
 ghost use Rattle.flush_log.specs.Disk.{CountsFailure, IsSynced, Kept, Leaves, Same};
 ghost use Rattle.recovery.specs.Recovered.{IsReadOf};
-ghost use Rattle.mapping.specs.TreeInMemory.{AreAllHome};
+ghost use Rattle.mapping.specs.Levels.{contents};
+ghost use Rattle.mapping.specs.TreeInMemory.{AreAllHome, tree_of};
 ghost use Rattle.engine.specs.Opened.{IsOpened, IsOpenedOn, IsReopened, disk_left, read_on};
 ghost use Rattle.engine.specs.Refusal.{is_crew};
 ghost use Rattle.engine.specs.State.{IsSound};
@@ -42,6 +43,8 @@ fn read_synced<D: Disk>(
 ) -> Result<Recovered, Fault>
     ensures opened { IsOpenedOn D.view D.failed true disk.old (read_on result disk.new) }
     ensures home { IfOk result (λ found. AreAllHome found.tree) }
+    ensures counted { IfOk result
+        (λ found. found.pairs ≡ length (contents (tree_of found.tree))) }
 {
     // Only for the proof.
     what_is_read_is_a_store();
@@ -113,6 +116,7 @@ impl<D: Disk> Store<D> {
                     version: slot.version,
                     disk,
                     has_failed: false,
+                    pairs: found.pairs,
                 })
             }
             Err(fault) => Err((fault, disk)),
@@ -169,6 +173,7 @@ impl<D: Disk> Store<D> {
                 self.log = slot.ends;
                 self.version = slot.version;
                 self.has_failed = false;
+                self.pairs = found.pairs;
                 Ok(())
             }
             Err(fault) => {

@@ -46,11 +46,13 @@ pub struct StoreInMemory {
     tree: Tree<Global>,
     log: LogEnds,
     version: Version,
+    // The number of pairs.
+    pairs: u128,
 }
 
 impl Model for StoreInMemory {
     ghost use Rattle.engine.specs.State.{store_in};
-    ghost use Rattle.engine.specs.SplitFlush.{StateInMemory, IsSoundStoreInMemory};
+    ghost use Rattle.engine.specs.SplitFlush.{StateInMemory, IsCountedStoreInMemory};
 
     ghost Value = { StateInMemory };
 
@@ -59,7 +61,8 @@ impl Model for StoreInMemory {
       store = store_in m.tree m.log m.version;
     } };
 
-    ghost invariant = { λ m. IsSoundStoreInMemory m.settings m.tree m.log m.version };
+    ghost invariant = { λ m.
+        IsCountedStoreInMemory m.settings m.tree m.log m.version m.pairs };
 }
 
 impl StoreInMemory {
@@ -231,6 +234,7 @@ impl<D: Disk> Store<D> {
             version,
             disk,
             has_failed,
+            pairs,
         } = self;
         let memory = StoreInMemory {
             settings,
@@ -238,6 +242,7 @@ impl<D: Disk> Store<D> {
             tree,
             log,
             version,
+            pairs,
         };
         match Arc::new(alloc, memory) {
             Ok(memory) => Ok(BegunFlush {
@@ -271,6 +276,7 @@ fn store_on<D: Disk>(
         mut tree,
         log,
         version,
+        pairs,
     } = memory;
     let (log, version) = match written {
         Some(slot) => {
@@ -287,6 +293,7 @@ fn store_on<D: Disk>(
         version,
         disk,
         has_failed,
+        pairs,
     }
 }
 

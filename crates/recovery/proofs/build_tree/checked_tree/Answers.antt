@@ -1,5 +1,6 @@
-use Rattle.std.proofs.Common.{◌≡◌, ◌∙◌, None, refl, sym, ap, inr}
+use Rattle.std.proofs.Common.{◌≡◌, ◌∙◌, None, length, refl, sym, ap, inr}
 use Rattle.mapping.specs.Finding.{finding}
+use Rattle.mapping.specs.Levels.{contents}
 use Rattle.mapping.specs.TreeInMemory.{TreeInMemory, tree_of}
 use Rattle.flush_log.specs.Slot.{Slot}
 use Rattle.recovery.specs.LogPages.{broken_in}
@@ -19,18 +20,18 @@ returns-in-Some-clause-err g c found h =
       refl,
     )
 
-pub returns-in_err-verify-clause-err : goal.returns-in_err-verify-clause-err
-returns-in_err-verify-clause-err g c found h =
+pub returns-in_err-report-clause-err : goal.returns-in_err-report-clause-err
+returns-in_err-report-clause-err g c found h =
     let format = c.args.format.now in
     let s = format.settings in
     let t = c.args.slot.now in
     let fs = frames_in found in
     let none : broken_in fs ≡ None = sym (c.in_default.ensures Every found h.live) in
     let built = c.new-tree.ensures ∙ ap (λ (u : Slot). slot_tree c.in_ok-table.table u) c.slot.view_is ∙ built-table t c.in_ok-table.table _ _ c.in_ok-table.ensures.ok (pages-gathered format c.args.gathering found c.requires c.table_of.ensures.ordered h) in
-    let fault = c.in_err-verify.field-0.0 in
+    let fault = c.in_err-report.field-0.0 in
     let seen = finding s (tree_of c.new-tree.result) in
-    found_leaves c.from_residual-in_err-verify.result (wrong_in s t fs) fault c.from_residual-in_err-verify.ensures.1
-    (found_of_same seen (wrong_in s t fs) fault (built-wrong s t fs c.new-tree.result built none) (found_by_walk seen fault c.in_err-verify.ensures.err))
+    found_leaves c.from_residual-in_err-report.result (wrong_in s t fs) fault c.from_residual-in_err-report.ensures.1
+    (found_of_same seen (wrong_in s t fs) fault (built-wrong s t fs c.new-tree.result built none) (found_by_walk seen fault c.in_err-report.ensures.err))
 
 pub returns-clause-ok : goal.returns-clause-ok
 returns-clause-ok g c found h =
@@ -40,6 +41,11 @@ returns-clause-ok g c found h =
     let fs = frames_in found in
     let broken : broken_in fs ≡ None = sym (c.in_default.ensures Every found h.live) in
     let built = c.new-tree.ensures ∙ ap (λ (u : Slot). slot_tree c.in_ok-table.table u) c.slot.view_is ∙ built-table t c.in_ok-table.table _ _ c.in_ok-table.ensures.ok (pages-gathered format c.args.gathering found c.requires c.table_of.ensures.ordered h) in
-    let none = c.in_ok-verify.ensures.sound in
+    let none = c.in_ok-report.ensures.sound in
     let marked = marked-built s t fs c.new-tree.result built c.requires none c.reserve.new.self (c.reserve.ensures ∙ c.flushed.ensures) in
     (sym (built-wrong s t fs c.new-tree.result built broken) ∙ none, marked.0, marked.1)
+
+pub returns-clause-counted : goal.returns-clause-counted
+returns-clause-counted g c =
+    ap (λ r. r.pairs) c.in_ok-report.ensures.report
+    ∙ sym (ap (λ (t : TreeInMemory). length (contents (tree_of t))) (c.reserve.ensures ∙ c.flushed.ensures))

@@ -20,7 +20,7 @@ returns-clause-read g c =
     let (file, read, log) = r.ensures.read in (
       file,
       read,
-      tree-recovered file r.field-0 log c.in_ok-tree.tree c.in_ok-tree.ensures.ok,
+      tree-recovered file r.field-0 log c.in_ok-tree.tree c.in_ok-tree.pairs c.in_ok-tree.ensures.ok,
     )
 
 pub returns-in_err-format-clause-only_reads : goal.returns-in_err-format-clause-only_reads

@@ -2,12 +2,6 @@ use Rattle.std.proofs.Common.{length, sym, ap, ◌∙◌}
 use Rattle.engine.proofs.HandleLemmas.{compacted_or_not}
 use Rattle.engine.proofs.handle.Handle.compact.Goals as goal
 
-pub invariant_of-self : goal.invariant_of-self
-invariant_of-self g c = record {
-  in_range = c.self.invariant.in_range;
-  counted = c.self.invariant.counted ∙ ap (λ es. length es) (sym (compacted_or_not c.self.inside.store c.compact.new.self c.compact.result c.compact.ensures.compacted c.compact.ensures.unchanged));
-}
-
 pub returns-clause-contents : goal.returns-clause-contents
 returns-clause-contents g c = rw (← c.self.view_is) (compacted_or_not c.self.inside.store c.compact.new.self c.compact.result c.compact.ensures.compacted c.compact.ensures.unchanged)
 

@@ -5,7 +5,6 @@ use Rattle.engine.specs.Durable.{IsFlushed, IsGivenUp}
 use Rattle.engine.specs.Refusal.{longest_batch, refusal}
 use Rattle.engine.specs.Undo.{undo_of_all}
 use Rattle.engine.proofs.DurableLemmas.{contents_by, executed_by, passed_on, refused_first, refused_then, undo_as, undone_as, unwritten_by}
-use Rattle.engine.proofs.HandleLemmas.{counted_left}
 use Rattle.engine.proofs.RefusedCalls.{not_both}
 use Rattle.engine.proofs.handle.Handle.execute_or_undo.Goals as goal
 
@@ -61,34 +60,6 @@ returns-in-Ok-flush_or_undo-clause-durable g c =
     }
 
 -- the flush is refused
-pub invariant_of-self-in-Err-flush_or_undo : goal.invariant_of-self-in-Err-flush_or_undo
-invariant_of-self-in-Err-flush_or_undo g c =
-    let old = c.args.self.now in
-    let cs = c.args.commands.now in
-    let (was_fine, able, had_none) = c.in-Ok.ensures.admitted in
-    let fine = ap (λ x. x.has_failed) (sym c.self.view_is) ∙ was_fine in
-    let none = subst (λ x. refusal x.settings cs ≡ None) c.self.view_is had_none in
-    let (made, few) = c.in-Ok.ensures.made in
-    let batch = c.in-Ok-execute_all.ensures in
-    let mid = c.execute_all.new.self in
-    let now = c.flush_or_undo.new.self in
-    let unwritten = c.in-Err-flush_or_undo.unwritten in
-    let proper = batch.sound.0.is.proper in
-    let rises = c.the_contents_of_a_proper_tree_rise.ensures old.settings old.store.tree proper in
-    let undo = c.deref.result.now in
-    let is = undo_as (contents old.store.tree) cs c.in-Ok.undo.items undo c.deref.ensures.value (made ∙ ap (λ x. undo_of_all (contents x.store.tree) cs) c.self.view_is) in
-    let short = subst (λ ds. length ds ≤ longest_batch) (sym c.deref.ensures.value) few in
-    let executed = executed_by g.D.Disk.view true old cs c.in-Ok-execute_all.replies _ mid batch in
-    let given = subst (λ x. IsGivenUp g.D.Disk.view g.D.Disk.failed true x undo now unwritten) c.self-2.view_is
-    (subst (λ b. IsGivenUp g.D.Disk.view g.D.Disk.failed b c.self-2.inside.store undo now unwritten) c.self-2.invariant.in_range c.in-Err-flush_or_undo.ensures.refused) in
-    let left = contents_by g.D.Disk.view g.D.Disk.failed true old mid now cs undo _ fine refl proper rises none is short executed unwritten given in
-    record {
-      in_range = c.self-2.invariant.in_range;
-      counted = counted_left (contents old.store.tree) (contents mid.store.tree) (contents now.store.tree) cs unwritten c.self.inside.pairs c.self-2.inside.pairs _
-          (c.self.invariant.counted ∙ ap (λ x. length (contents x.store.tree)) c.self.view_is) (c.self-2.invariant.counted ∙ ap (λ x. length (contents x.store.tree)) c.self-2.view_is) batch.contents left
-          c.pairs_left-self-inside.ensures;
-    }
-
 pub returns : goal.returns
 returns g c =
     let old = c.args.self.now in

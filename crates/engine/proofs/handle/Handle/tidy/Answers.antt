@@ -1,12 +1,6 @@
 use Rattle.std.proofs.Common.{length, sym, ap, ◌∙◌}
 use Rattle.engine.proofs.handle.Handle.tidy.Goals as goal
 
-pub invariant_of-self : goal.invariant_of-self
-invariant_of-self g c = record {
-  in_range = c.self.invariant.in_range;
-  counted = c.self.invariant.counted ∙ ap (λ es. length es) (sym c.tidy.ensures.tidied.holds);
-}
-
 pub returns-clause-contents : goal.returns-clause-contents
 returns-clause-contents g c = rw (← c.self.view_is) c.tidy.ensures.tidied.holds
 

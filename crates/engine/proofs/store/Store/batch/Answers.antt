@@ -1,12 +1,16 @@
-use Rattle.std.proofs.Common.{◌≡◌, true, false, rules, refl, ap, sym, subst, ◌<◌, ◌^◌}
+use Rattle.std.proofs.Common.{◌≡◌, true, false, length, rules, refl, ap, sym, subst, ◌∙◌, ◌+◌, ◌-◌, ◌<◌, ◌≤◌, ◌^◌}
 use Rattle.std.proofs.lemmas.Result.{err_from_is_err_and}
+use Rattle.keys.specs.Order.{IsRising}
+use Rattle.mapping.specs.Levels.{contents}
 use Rattle.mapping.specs.Tree.{Tree}
-use Rattle.mapping.specs.TreeInMemory.{TreeInMemory}
+use Rattle.mapping.specs.TreeInMemory.{TreeInMemory, tree_of}
 use Rattle.engine.specs.Refusal.{is_crew, refusal}
-use Rattle.engine.specs.State.{IsSound, IsSoundStore, state_of}
+use Rattle.engine.specs.State.{IsSound, state_of}
 use Rattle.engine.proofs.Admitted.{admitted, passed_by, refused_by_own}
 use Rattle.engine.proofs.BatchDone.{batched-sound, planned-is, unrefused}
+use Rattle.engine.proofs.PairCounts.{counted}
 use Rattle.engine.proofs.RefusedCalls.{not_both}
+use Rattle.engine.proofs.SoundStores.{IsSoundStore, uncounted, with_count}
 use Rattle.engine.proofs.store.Store.batch.Goals as goal
 
 pub execute-requires-clause-short : goal.execute-requires-clause-short
@@ -108,10 +112,16 @@ invariant_of-self-2 g c =
     let planned = c.in_ok-replies.ensures.tree in
     let none = unrefused s t c.execute.new.tree cs own c.execute.ensures.sound.sound.height planned in
     let words : c.execute.new.tree.root < 2 ^ 64 = (search rules) in
-    subst (λ b. IsSoundStore g.D.Disk.view s c.execute.new.tree c.self.inside.log c.self.inside.version c.self.inside.disk b) (sym c.if-self.false)
+    let m = contents (tree_of t) in
+    let after = contents (tree_of c.execute.new.tree) in
+    let rising : IsRising m = subst (λ x. IsRising (contents x.store.tree)) (sym c.self.view_is) c.pairs_fit.ensures.rising in
+    let fit = subst (λ x. length (contents x.store.tree) + length cs ≤ 2 ^ 128 - 1) (sym c.self.view_is) c.pairs_fit.ensures.fit in
+    with_count _ (subst (λ b. IsSoundStore g.D.Disk.view s c.execute.new.tree c.self.inside.log c.self.inside.version c.self.inside.disk b) (sym c.if-self.false)
     (batched-sound g.D.Disk.view s t c.execute.new.tree c.self.inside.log c.self.inside.version c.self.inside.disk cs
-    (subst (λ b. IsSoundStore g.D.Disk.view s t c.self.inside.log c.self.inside.version c.self.inside.disk b) c.if-self.false c.self.invariant)
-    c.execute.ensures.sound.home planned none words c.a_batch_stays_in_step.ensures.kept c.a_batch_stays_in_step.ensures.step)
+    (subst (λ b. IsSoundStore g.D.Disk.view s t c.self.inside.log c.self.inside.version c.self.inside.disk b) c.if-self.false (uncounted c.self.invariant))
+    c.execute.ensures.sound.home planned none words c.a_batch_stays_in_step.ensures.kept c.a_batch_stays_in_step.ensures.step))
+    (counted m after cs c.deref.result.now c.self.inside.pairs c.pairs_after_all-self-inside.result rising fit c.self.invariant.counted (c.deref.ensures.value ∙ c.in_ok-replies.ensures.replies) c.in_ok-replies.ensures.contents
+    c.pairs_after_all-self-inside.ensures)
 
 pub returns : goal.returns
 returns g c = rw (← c.self.view_is) (

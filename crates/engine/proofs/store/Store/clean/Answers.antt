@@ -55,6 +55,7 @@ invariant_of-self g c =
     let law = c.a_clean_keeps_the_store.ensures in
     record {
       home = c.self.invariant.home;
+      counted = c.self.invariant.counted;
       sound = cleaned-sound g.D.Disk.view s st c.self.inside.disk c.clean.new.disk c.self.inside.has_failed c.self.invariant.sound c.if-self.false c.clean.ensures.kept
           (store_in tree c.committed.inside.ends c.committed.inside.version) file bytes law.kept law.step (cleaned-now _ tree c.in-Ok.committed c.committed.inside.ends _ _ c.committed.inside.version bytes c.committed.view_is done)
           (λ honest. cleaned-now _ tree c.in-Ok.committed c.committed.inside.ends _ _ c.committed.inside.version _ c.committed.view_is (c.in-Ok.ensures.written honest st refl refl));
@@ -98,6 +99,7 @@ invariant_of-self-in-Err g c =
     let st = store_in tree c.self.inside.log c.self.inside.version in
     record {
       home = c.self.invariant.home;
+      counted = c.self.invariant.counted;
       sound = refused-sound g.D.Disk.view s st c.self.inside.disk c.clean.new.disk c.self.inside.has_failed c.self.invariant.sound c.if-self.false c.clean.ensures.kept
           c.is_of_disk-self-inside.result _ _ c.is_of_disk-self-inside.ensures (λ honest. c.in-Err.ensures.unwritten honest st refl refl);
     }

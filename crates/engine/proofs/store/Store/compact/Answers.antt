@@ -1,9 +1,12 @@
-use Rattle.std.proofs.Common.{◌≡◌, true, false, rules, refl, subst, ◌<◌, ◌^◌}
+use Rattle.std.proofs.Common.{◌≡◌, true, false, length, rules, refl, sym, ap, subst, ◌∙◌, ◌<◌, ◌^◌}
 use Rattle.std.proofs.lemmas.Result.{err_from_is_err_and}
+use Rattle.mapping.specs.Levels.{contents}
+use Rattle.mapping.specs.Tree.{Tree}
 use Rattle.engine.specs.Refusal.{is_crew}
 use Rattle.engine.specs.State.{store_in}
 use Rattle.engine.proofs.CompactedStores.{compacted_sound, is_compacted}
 use Rattle.engine.proofs.RefusedCalls.{admitted_call, bad_crew_call, failed_call, not_both}
+use Rattle.engine.proofs.SoundStores.{uncounted, with_count}
 use Rattle.engine.proofs.store.Store.compact.Goals as goal
 
 pub returns-then-self : goal.returns-then-self
@@ -49,9 +52,12 @@ returns-in_err-new g c =
 pub invariant_of-self : goal.invariant_of-self
 invariant_of-self g c =
     let words : c.in_ok-new.new.root < 2 ^ 64 = search rules in
-    compacted_sound g.D.Disk.view c.self.inside.settings c.self.inside.tree c.in_ok-new.new c.self.inside.log c.self.inside.version c.self.inside.disk c.self.inside.has_failed
-    c.in_ok-new.ensures.tree words c.self.invariant c.in_ok-new.ensures.sound
-    c.a_compacted_tree_keeps_the_store_in_step.ensures.kept c.a_compacted_tree_keeps_the_store_in_step.ensures.step
+    let was = store_in c.self.inside.tree c.self.inside.log c.self.inside.version in
+    let holds = ap (λ (t : Tree). contents t) c.in_ok-new.ensures.tree ∙ c.a_compacted_tree_keeps_the_store_in_step.ensures.holds c.self.inside.settings was c.self.invariant.sound.is in
+    with_count _ (compacted_sound g.D.Disk.view c.self.inside.settings c.self.inside.tree c.in_ok-new.new c.self.inside.log c.self.inside.version c.self.inside.disk c.self.inside.has_failed
+    c.in_ok-new.ensures.tree words (uncounted c.self.invariant) c.in_ok-new.ensures.sound
+    c.a_compacted_tree_keeps_the_store_in_step.ensures.kept c.a_compacted_tree_keeps_the_store_in_step.ensures.step)
+    (c.self.invariant.counted ∙ ap length (sym holds))
 
 pub returns-clause-compacted : goal.returns-clause-compacted
 returns-clause-compacted g c =

@@ -5,6 +5,7 @@ use Rattle.engine.proofs.CleansLemmas.{if_ok}
 use Rattle.engine.proofs.CompactedStores.{compacted_sound}
 use Rattle.engine.proofs.PendingLemmas.{some-left}
 use Rattle.engine.proofs.RoomLemmas.{if_same}
+use Rattle.engine.proofs.SoundStores.{uncounted}
 use Rattle.engine.proofs.store.Store.compacted_that_fits.Goals as goal
 
 -- ---- its flush is refused, or has nothing to write
@@ -25,7 +26,7 @@ plan-requires-clause-store g c κs within =
     let words : c.in-Ok.new.root < 2 ^ 64 = search rules in (
       c.self.inside.version,
       (compacted_sound g.D.Disk.view c.self.inside.settings c.self.inside.tree c.in-Ok.new c.self.inside.log c.self.inside.version c.self.inside.disk c.self.inside.has_failed
-          c.in-Ok.ensures.tree words c.self.invariant c.in-Ok.ensures.sound
+          c.in-Ok.ensures.tree words (uncounted c.self.invariant) c.in-Ok.ensures.sound
           c.a_compacted_tree_keeps_the_store_in_step.ensures.kept c.a_compacted_tree_keeps_the_store_in_step.ensures.step).sound.is,
     )
 

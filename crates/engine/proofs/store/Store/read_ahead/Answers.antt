@@ -17,6 +17,7 @@ invariant_of-self g c =
     let st = store_in c.self.inside.tree c.self.inside.log c.self.inside.version in
     record {
       home = c.self.invariant.home;
+      counted = c.self.invariant.counted;
       sound = (only_read g.D.Disk.view g.D.Disk.failed c.self.inside.settings st c.self.inside.disk c.self.inside.has_failed c.self.invariant.sound (subst (λ x. x.has_failed ≡ false) (sym c.self.view_is) c.requires.fine) c.read_for_cleans.new.disk
           c.read_for_cleans.ensures.only_reads.kept c.in-Ok.ensures.only_reads.counted c.read_for_cleans.ensures.only_reads.same).sound;
     }
@@ -45,6 +46,7 @@ invariant_of-self-in-Err g c =
     let st = store_in c.self.inside.tree c.self.inside.log c.self.inside.version in
     record {
       home = c.self.invariant.home;
+      counted = c.self.invariant.counted;
       sound = refused-sound g.D.Disk.view c.self.inside.settings st c.self.inside.disk c.read_for_cleans.new.disk c.self.inside.has_failed c.self.invariant.sound (subst (λ x. x.has_failed ≡ false) (sym c.self.view_is) c.requires.fine) c.read_for_cleans.ensures.only_reads.kept
           c.is_of_disk-self-inside.result c.in-Err.fault Unit c.is_of_disk-self-inside.ensures (λ honest. inl (c.read_for_cleans.ensures.only_reads.same honest));
     }

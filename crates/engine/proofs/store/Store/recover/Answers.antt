@@ -3,6 +3,7 @@ use Rattle.recovery.proofs.ReadBytes.{kept_self, same_self}
 use Rattle.engine.specs.Refusal.{is_crew}
 use Rattle.engine.proofs.OpenedLemmas.{opened-read, opened-seen, opened-store, refused-seen}
 use Rattle.engine.proofs.RefusedCalls.{not_both}
+use Rattle.engine.proofs.SoundStores.{with_count}
 use Rattle.engine.proofs.store.Store.recover.Goals as goal
 
 -- ---- the crew is out of range
@@ -29,8 +30,8 @@ pub invariant_of-result : goal.invariant_of-result
 invariant_of-result g c =
     let (file, read, reported) = c.in-Ok.ensures.read in
     let r = c.in-Ok.found in
-    opened-store g.D.Disk.view r.settings r.tree r.slot c.slot.inside.ends _ _ c.slot.inside.version c.args.disk c.recover.new.disk file read reported.0 c.in-Ok.ensures.only_reads.kept c.in-Ok.ensures.only_reads.same
-    c.what_is_read_is_a_store.ensures c.slot.view_is reported.1
+    with_count _ (opened-store g.D.Disk.view r.settings r.tree r.slot c.slot.inside.ends _ _ c.slot.inside.version c.args.disk c.recover.new.disk file read reported.0 c.in-Ok.ensures.only_reads.kept c.in-Ok.ensures.only_reads.same
+    c.what_is_read_is_a_store.ensures c.slot.view_is reported.1) c.in-Ok.ensures.counted
 
 pub returns-in-Ok : goal.returns-in-Ok
 returns-in-Ok g c =

@@ -10,6 +10,7 @@ invariant_of-self g c =
     let r = c.in-Ok.found in
     record {
       home = c.in-Ok.ensures.home;
+      counted = c.in-Ok.ensures.counted;
       sound = (reopened-store g.D.Disk.view g.D.Disk.failed c.self.inside.disk c.read_synced.new.disk r.settings r.tree r.slot c.slot.inside.ends _ _ c.slot.inside.version c.slot.view_is c.in-Ok.ensures.opened).sound;
     }
 
@@ -27,6 +28,7 @@ returns-in-Ok g c = rw (← c.self.view_is) (
 pub invariant_of-self-in-Err : goal.invariant_of-self-in-Err
 invariant_of-self-in-Err g c = record {
   home = c.self.invariant.home;
+  counted = c.self.invariant.counted;
   sound = unopened-sound g.D.Disk.view c.self.inside.settings (store_in c.self.inside.tree c.self.inside.log c.self.inside.version) c.self.inside.disk c.read_synced.new.disk c.self.inside.has_failed
       c.has_failed_after-self-inside.result c.in-Err.fault c.self.invariant.sound c.in-Err.ensures.opened.kept c.in-Err.ensures.opened.seen c.has_failed_after-self-inside.ensures;
 }

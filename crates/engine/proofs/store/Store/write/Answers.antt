@@ -1,6 +1,7 @@
-use Rattle.std.proofs.Common.{◌≡◌, ◌≤◌, ℕ, false, inl, inr, refl, sym, ap, subst, ◌∙◌}
+use Rattle.std.proofs.Common.{◌≡◌, ◌≤◌, ℕ, false, length, inl, inr, refl, sym, ap, subst, ◌∙◌}
 use Rattle.std.proofs.lemmas.Bool.{true≢false}
 use Rattle.std.proofs.lemmas.Result.{err_from_is_err_and}
+use Rattle.mapping.specs.Levels.{contents}
 use Rattle.mapping.specs.TreeInMemory.{TreeInMemory, tree_of}
 use Rattle.flush_log.specs.AfterFlush.{slot_of}
 use Rattle.flush_log.specs.FlushText.{version_with, commit_frames}
@@ -73,6 +74,7 @@ invariant_of-self g c =
     let was = c.self.invariant in
     record {
       home = was.home;
+      counted = was.counted;
       sound = record {
         is = was.sound.is;
         room = subst (λ (n : ℕ). disk_size c.self.inside.settings ≤ n) (sym c.write.ensures.kept.size) was.sound.room;
@@ -139,6 +141,7 @@ invariant_of-self-2 g c =
     let done = written-now text s st is _ p c.flushed.new.self _ _ _ _ tree_is (c.slot.view_is ∙ c.slot-slot.ensures) old.seen in
     record {
       home = rw c.flushed.ensures c.self.invariant.home;
+      counted = c.self.invariant.counted ∙ sym (ap (λ (t : TreeInMemory). length (contents (tree_of t))) c.flushed.ensures);
       sound = rw fine (written-sound view text s st _ c.self.inside.disk c.write.new.disk _ (subst (λ b. IsSound view (state_of s tree log st.version c.self.inside.disk b)) fine c.self.invariant.sound) is.own p.encoded.within
           (keeps c.what_was_flushed_is_what_is_read.ensures.kept c.what_was_upgraded_is_what_is_read.ensures.kept text)
           (reads c.what_was_flushed_is_what_is_read.ensures.read c.what_was_upgraded_is_what_is_read.ensures.read text) c.write.ensures.kept done

@@ -1,10 +1,11 @@
-use Rattle.std.proofs.Common.{List, ℕ, get_or, refl, ap, ◌∙◌}
+use Rattle.std.proofs.Common.{List, ℕ, get_or, length, refl, sym, ap, ◌∙◌}
 use Rattle.mapping.specs.Levels.{contents}
 use Rattle.mapping.specs.Tree.{Store}
 use Rattle.engine.specs.Hidden.{exchanged_view}
 use Rattle.engine.specs.Late.{create_refusal}
 use Rattle.engine.proofs.CreateLemmas.{not_refused, first-is, made-bytes, made-sound, refused_with}
 use Rattle.engine.proofs.HiddenStores.{below_first, new_first}
+use Rattle.engine.proofs.SoundStores.{with_count}
 use Rattle.engine.proofs.store.creation.create_hidden.Goals as goal
 
 pub invariant_of-result : goal.invariant_of-result
@@ -13,8 +14,9 @@ invariant_of-result g c =
     let old = c.args.disk in
     let free = not_refused (λ fault. fault) (create_refusal c.args.settings (view old).size) c.make.result _ _ c.make.ensures.refused c.in-Ok.is in
     let is = first-is c.in-Ok.tree c.first_slot-first.result c.first.inside.ends _ _ c.first.inside.version c.in-Ok.ensures.tree c.first_slot-first.ensures c.first.view_is in
-    made-sound _ c.args.settings c.in-Ok.tree c.first.inside.ends c.first.inside.version (view old) _ is free (λ honest. g.met.D.Disk.lawful old honest) (λ honest. (c.in-Ok.ensures.bytes honest).0)
-    c.in-Ok.ensures.tree c.make.ensures.kept.honest c.make.ensures.kept.size c.a_new_disk_stands_for_the_first_store.ensures
+    with_count 0 (made-sound _ c.args.settings c.in-Ok.tree c.first.inside.ends c.first.inside.version (view old) _ is free (λ honest. g.met.D.Disk.lawful old honest) (λ honest. (c.in-Ok.ensures.bytes honest).0)
+    c.in-Ok.ensures.tree c.make.ensures.kept.honest c.make.ensures.kept.size c.a_new_disk_stands_for_the_first_store.ensures)
+    (sym (ap length (ap (λ (st : Store). contents st.tree) is ∙ c.the_first_tree_is_proper_and_empty.ensures.empty)))
 
 pub returns-in-Ok-clause-created : goal.returns-in-Ok-clause-created
 returns-in-Ok-clause-created g c =

@@ -1,13 +1,15 @@
 use Rattle.std.proofs.Common.{inr, refl}
 use Rattle.flush_log.proofs.ViewLemmas.{counted_failed}
 use Rattle.engine.proofs.HiddenStores.{revealed-sound}
+use Rattle.engine.proofs.SoundStores.{uncounted, with_count}
 use Rattle.engine.proofs.store.creation.reveal_store.Goals as goal
 
 pub invariant_of-result : goal.invariant_of-result
 invariant_of-result g c =
     let inside = c.hidden.inside in
-    revealed-sound g.D.Disk.view inside.settings inside.tree inside.log inside.version c.reveal.new.disk inside.has_failed _ _ (g.D.Disk.view inside.disk.disk) c.hidden.invariant
-    refl refl refl c.reveal.ensures.kept.honest c.reveal.ensures.kept.size (λ honest. c.in-Ok.ensures.written honest)
+    with_count _ (revealed-sound g.D.Disk.view inside.settings inside.tree inside.log inside.version c.reveal.new.disk inside.has_failed _ _ (g.D.Disk.view inside.disk.disk) (uncounted c.hidden.invariant)
+    refl refl refl c.reveal.ensures.kept.honest c.reveal.ensures.kept.size (λ honest. c.in-Ok.ensures.written honest))
+    c.hidden.invariant.counted
 
 pub returns-in-Ok : goal.returns-in-Ok
 returns-in-Ok g c = rw (← c.hidden.view_is) (record {

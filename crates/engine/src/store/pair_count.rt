@@ -1,13 +1,12 @@
 //! The number of pairs, updated by the replies to commands.
 ghost use Rattle.std.specs.Prelude.{◌≡◌};
-ghost use Rattle.engine.specs.Handle.{pairs_after, pairs_after_all, pairs_left};
+ghost use Rattle.engine.specs.PairCount.{pairs_after, pairs_after_all};
 
-use crate::store::Unwritten;
 use keys::Reply;
 use std::alloc::Global;
 
 // The number of pairs after the commands that have these replies.
-pub(crate) fn pairs_after_all(pairs: u128, replies: &[Reply<Global>]) -> u128
+pub(super) fn pairs_after_all(pairs: u128, replies: &[Reply<Global>]) -> u128
     ensures { result ≡ pairs_after_all pairs replies.now }
 {
     let mut pairs = pairs;
@@ -25,15 +24,5 @@ fn pairs_after(pairs: u128, reply: &Reply<Global>) -> u128
         Reply::Deleted => pairs.saturating_sub(1),
         Reply::Wiped(count) => pairs.saturating_sub(*count),
         _ => pairs,
-    }
-}
-
-// The number of pairs after a batch that is not durable, which had left `after` pairs in memory.
-pub(crate) fn pairs_left(before: u128, after: u128, unwritten: &Unwritten) -> u128
-    ensures { result ≡ pairs_left before after unwritten.now }
-{
-    match unwritten {
-        Unwritten::Undone(_) => before,
-        Unwritten::InDoubt(_) => after,
     }
 }

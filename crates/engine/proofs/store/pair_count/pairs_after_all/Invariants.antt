@@ -1,6 +1,6 @@
 use Rattle.std.proofs.Common.{◌≡◌, drop}
-use Rattle.engine.specs.Handle.{pairs_after_all}
-use Rattle.engine.proofs.handle.tally.pairs_after_all.Given as goal
+use Rattle.engine.specs.PairCount.{pairs_after_all}
+use Rattle.engine.proofs.store.pair_count.pairs_after_all.Given as goal
 
 -- the count after the remaining replies is the count after all
 abbrev pub invariant-loop-reply : goal.invariant-loop-reply
