@@ -224,7 +224,7 @@ impl<'a, R: Threads + Sync, P: Observer> Session<'a, R, P> {
         ensures { OrderRuns D.view O.contents self.now.calls.mode orders.Numbers store.now out.old
             result store.now out.new }
     {
-        let report = store.verify(self.calls.rt)?;
+        let report = store.report();
         print_numbers(NumberLine::Numbers(numbers_of(store, &report)), out)
     }
 
@@ -232,7 +232,7 @@ impl<'a, R: Threads + Sync, P: Observer> Session<'a, R, P> {
         ensures { OrderRuns D.view O.contents self.now.calls.mode orders.Stat store.now out.old
             result store.now out.new }
     {
-        let report = store.verify(self.calls.rt)?;
+        let report = store.report();
         print_numbers(NumberLine::Numbers(numbers_of(store, &report)), out)?;
         print_numbers(NumberLine::Settings(store.settings()), out)
     }
@@ -278,7 +278,7 @@ where
         ensures { OrderRuns D.view O.contents self.now.calls.mode (orders.Copy path.now segments)
             store.now out.old result store.now out.new }
     {
-        let pairs = store.verify(self.calls.rt)?.pairs;
+        let pairs = store.len();
         let settings = copy_settings(store.settings(), segments);
         match self.copy_asked(store, path, settings) {
             Ok(()) => print_numbers(NumberLine::Copied(pairs), out),

@@ -6,15 +6,8 @@ use Rattle.keys.specs.declared.settings.Settings.{Settings}
 use Rattle.bwsh.specs.Output.{Writes}
 use Rattle.bwsh.specs.Session.{numbers_of}
 use Rattle.bwsh.specs.Shown.{shown_numbers, shown_settings}
-use Rattle.bwsh.proofs.AloneLemmas.{RunsOrder-still, RunsOrder-unstill, Writes-both, Writes-early}
+use Rattle.bwsh.proofs.AloneLemmas.{RunsOrder-still, Writes-both, Writes-early}
 use Rattle.bwsh.proofs.context.Session.print_stat.Goals as goal
-
-pub returns-in_err-report : goal.returns-in_err-report
-returns-in_err-report g c =
-    let store = c.args.store.now in
-    let disk = g.D.Disk.view store.disk in
-    let p = err_from_is_err_and c.from_residual.result c.from_residual.ensures.1 in
-    rw (p.1, p.2) (RunsOrder-unstill c.args.self.now.calls.mode disk.is_honest store.settings store.store disk.seen Stat tt _ _ c.in_err-report.ensures.err)
 
 pub returns-in_err-print_numbers : goal.returns-in_err-print_numbers
 returns-in_err-print_numbers g c =
@@ -22,7 +15,7 @@ returns-in_err-print_numbers g c =
     let disk = g.D.Disk.view store.disk in
     let old = g.O.Write.contents c.args.out.now in
     let new = g.O.Write.contents c.print_numbers.new.out in
-    let p = err_from_is_err_and c.from_residual-in_err-print_numbers.result c.from_residual-in_err-print_numbers.ensures.1 in
+    let p = err_from_is_err_and c.from_residual.result c.from_residual.ensures.1 in
     let early = c.in_err-print_numbers.field-0.0 in
     rw (p.1, p.2) (RunsOrder-still c.args.self.now.calls.mode disk.is_honest store.settings store.store disk.seen Stat tt tt old new (Err early)
     (Writes-early old new (shown_numbers (numbers_of store.settings store.store) ∷ []) (shown_settings store.settings ∷ []) early

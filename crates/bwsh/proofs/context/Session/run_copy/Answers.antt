@@ -1,22 +1,13 @@
 use Rattle.std.proofs.Common.{◌≡◌, ◌⊎◌, ◌∷◌, [], ◌∙◌, ap, subst, ℕ, Some, Ok, Err}
-use Rattle.std.proofs.lemmas.Result.{err_from_is_err_and}
 use Rattle.keys.specs.declared.settings.Settings.{Settings}
 use Rattle.mapping.specs.Levels.{contents}
-use Rattle.verify.specs.declared.report.Report.{Report}
 use Rattle.bwsh.specs.declared.order.Order.TheVariants.{Copy}
 use Rattle.bwsh.specs.Output.{Writes}
 use Rattle.bwsh.specs.Session.{IsCopyEnd, IsCopyMade, IsUncopied, copy_settings}
 use Rattle.bwsh.specs.Shown.{shown_copied}
 use Rattle.bwsh.proofs.AloneLemmas.{RunsOrder-still}
-use Rattle.bwsh.proofs.CopyOrderLemmas.{RunsOrder-uncopied, RunsOrder-unfiled, RunsOrder-unmade}
+use Rattle.bwsh.proofs.CopyOrderLemmas.{RunsOrder-uncopied, RunsOrder-unfiled}
 use Rattle.bwsh.proofs.context.Session.run_copy.Goals as goal
-
-pub returns-in_err-pairs : goal.returns-in_err-pairs
-returns-in_err-pairs g c =
-    let store = c.args.store.now in
-    let disk = g.D.Disk.view store.disk in
-    let p = err_from_is_err_and c.from_residual.result c.from_residual.ensures.1 in
-    rw (p.1, p.2) (RunsOrder-unmade c.args.self.now.calls.mode disk.is_honest store.settings store.store disk.seen c.args.path.now c.args.segments _ _ c.in_err-pairs.ensures.err)
 
 pub returns-in-Ok : goal.returns-in-Ok
 returns-in-Ok g c =
@@ -28,7 +19,7 @@ returns-in-Ok g c =
     let is = c.copy_settings-settings.ensures ∙ ap (λ (s : Settings). copy_settings s c.args.segments) c.settings.ensures in
     RunsOrder-still c.args.self.now.calls.mode disk.is_honest store.settings store.store disk.seen (Copy c.args.path.now c.args.segments) tt
     (subst (λ (s : Settings). IsCopyMade s (contents store.store.tree)) is c.in-Ok.ensures.copied) old new end
-    (subst (λ (n : ℕ). Writes old new (shown_copied n ∷ []) end) (ap (λ (r : Report). r.pairs) c.in_ok-pairs.ensures.ok) c.print_numbers.ensures)
+    (subst (λ (n : ℕ). Writes old new (shown_copied n ∷ []) end) c.len-pairs.ensures c.print_numbers.ensures)
 
 pub returns-in-Err-Device : goal.returns-in-Err-Device
 returns-in-Err-Device g c =
