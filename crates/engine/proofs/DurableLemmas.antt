@@ -14,7 +14,7 @@ use Rattle.mapping.specs.Proper.{IsProper}
 use Rattle.flush_log.specs.Disk.{View}
 use Rattle.engine.specs.Batch.{IsLaterFault}
 use Rattle.engine.specs.Cleaning.{IsStart}
-use Rattle.engine.specs.Durable.{IsExecuted, IsFlushed, IsGivenUp, IsNotUndone, IsRefusedBatch, IsUndoTried, IsUnflushed, IsUnwritten, contents_after}
+use Rattle.engine.specs.Durable.{IsExecuted, IsFlushed, IsGivenUp, IsNotUndone, IsRefusedBatch, IsUndoRefused, IsUndoTried, IsUnflushed, IsUnwritten, contents_after}
 use Rattle.engine.specs.OneStep.{IsBatch}
 use Rattle.engine.specs.Refusal.{longest_batch, refusal}
 use Rattle.engine.specs.State.{State}
@@ -104,9 +104,9 @@ module _ {D : Type 0} (view : D → View) (failures : D → ℕ) where
       → IsGivenUp view failures able old undo now unwritten
   given_up able old mid now undo fault (Undone reported) unflushed (same, other, replies, done) =
       (mid, (λ device. other (sym same ∙ device)), subst (λ f. IsUnflushed view failures old f mid) (sym same) unflushed, replies, done)
-  given_up able old mid now undo fault (InDoubt reported) unflushed (same, is, why) = (
+  given_up able old mid now undo fault (InDoubt reported refused) unflushed (same, is, why) = (
     subst (λ f. IsUnflushed view failures old f now) (sym same) (subst (λ x. IsUnflushed view failures old fault x) (sym is) unflushed),
-    subst (λ f. (f ≡ Device) ⊎ ((f ≢ Device) × (why : Fault) × IsRefusedBatch view able now undo why now)) (sym same) why,
+    subst (λ f. IsUndoRefused view able now undo f refused) (sym same) why,
   )
 
   -- ---- the call
@@ -125,15 +125,15 @@ module _ {D : Type 0} (view : D → View) (failures : D → ℕ) where
     later_by None x why e h = h
     later_by (Some f) x why e h = absurd (cc)
 
-    not_undone : (fault : Fault) → IsUnflushed view failures mid fault now → ((fault ≡ Device) ⊎ ((fault ≢ Device) × (why : Fault) × IsRefusedBatch view able now undo why now))
-        → IsNotUndone (contents old.store.tree) cs fault now
-    not_undone fault unflushed (inl device) = inl device
-    not_undone fault unflushed (inr (other, why, refused)) =
+    not_undone : (fault : Fault) (reason : Option Fault) → IsUnflushed view failures mid fault now → IsUndoRefused view able now undo fault reason
+        → IsNotUndone (contents old.store.tree) cs fault reason now
+    not_undone fault None unflushed device = device
+    not_undone fault (Some why) unflushed (other, refused) =
         let batch = subst (λ ds. IsRefusedBatch view able now ds why now) is refused in
         let settings = unflushed_settings mid now fault unflushed ∙ executed.rest.0 in
         let passed = ap (λ s. refusal s (undo_of_all (contents old.store.tree) cs)) settings ∙ undo_admitted in
         let failed = unflushed_failed mid now fault other unflushed ∙ executed.rest.2 ∙ fine in
-        inr (why, later_by (refusal now.settings (undo_of_all (contents old.store.tree) cs)) now why passed (batch.refused failed fit))
+        (other, later_by (refusal now.settings (undo_of_all (contents old.store.tree) cs)) now why passed (batch.refused failed fit))
 
     pub unwritten_by : (unwritten : Unwritten) → IsGivenUp view failures able mid undo now unwritten → IsUnwritten view failures able old cs now unwritten
     unwritten_by (Undone fault) (stop, other, unflushed, said, done) =
@@ -147,7 +147,7 @@ module _ {D : Type 0} (view : D → View) (failures : D → ℕ) where
           undone = subst (λ ds. IsExecuted view able stop ds said now) is done;
           rest = (done.rest.0 ∙ settings, done.rest.1, done.rest.2 ∙ failed);
         })
-    unwritten_by (InDoubt fault) (unflushed, why) = (record { mid = mid; replies = replies; executed = executed; unflushed = unflushed }, not_undone fault unflushed why)
+    unwritten_by (InDoubt fault reason) (unflushed, why) = (record { mid = mid; replies = replies; executed = executed; unflushed = unflushed }, not_undone fault reason unflushed why)
 
     pub contents_by : (unwritten : Unwritten) → IsGivenUp view failures able mid undo now unwritten → contents now.store.tree ≡ contents_after (contents old.store.tree) cs unwritten
     contents_by (Undone fault) (stop, other, unflushed, said, done) =
@@ -155,7 +155,7 @@ module _ {D : Type 0} (view : D → View) (failures : D → ℕ) where
         ∙ ap (λ m. map_after_all m undo) (unflushed_holds mid stop fault unflushed ∙ executed.contents)
         ∙ ap (λ ds. map_after_all (map_after_all (contents old.store.tree) cs) ds) is
         ∙ undone (contents old.store.tree) cs rises
-    contents_by (InDoubt fault) (unflushed, why) = unflushed_holds mid now fault unflushed ∙ executed.contents
+    contents_by (InDoubt fault reason) (unflushed, why) = unflushed_holds mid now fault unflushed ∙ executed.contents
 
 -- ---- a batch that was refused before it was executed
 

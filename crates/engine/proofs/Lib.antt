@@ -26,6 +26,7 @@ mod CopyLemmas
 mod CreateLemmas
 mod Crossing
 mod DurableLemmas
+mod DurableOnDisk
 mod EarlyLemmas
 mod EndedRoutes
 mod Executed

@@ -1,5 +1,5 @@
 -- A batch and its flush as one call: what the call leaves if it succeeds, if the batch was undone, and if the batch is in doubt.
-use Rattle.std.specs.Prelude.{◌≡◌, ◌≢◌, ◌⊎◌, ℕ, Bool, List, Ok, Err, Result}
+use Rattle.std.specs.Prelude.{◌≡◌, ◌≢◌, ◌⊎◌, ℕ, Bool, List, Option, Some, None, Ok, Err, Result}
 use Rattle.std.specs.declared.alloc.Global.{Global}
 use Rattle.keys.specs.Bytes.{Bytes, Pairs}
 use Rattle.keys.specs.Step.{map_after_all}
@@ -60,9 +60,11 @@ pub record IsUndone {D : Type 0} (view : D → View) (failures : D → ℕ) (abl
   pub undone : IsExecuted view able mid (undo_of_all (contents old.store.tree) cs) replies now
   pub rest : (now.settings ≡ old.settings) × (now.disk ≡ mid.disk) × (now.has_failed ≡ old.has_failed)
 
--- why a batch in doubt was not undone: a call of the disk failed, or the undo commands were refused for lack of memory or because of the height
-abbrev pub IsNotUndone : {D : Type 0} → Pairs Bytes → List (Command Global) → Fault → State D → Type 0
-IsNotUndone m cs fault now = (fault ≡ Device) ⊎ ((why : Fault) × IsLaterFault now.settings now.store.tree (undo_of_all m cs) why)
+-- why a batch in doubt was not undone: a call of the disk failed; or the undo commands were refused with this fault, for lack of memory or because of
+-- the height
+abbrev pub IsNotUndone : {D : Type 0} → Pairs Bytes → List (Command Global) → Fault → Option Fault → State D → Type 0
+IsNotUndone m cs fault None now = fault ≡ Device
+IsNotUndone m cs fault (Some why) now = (fault ≢ Device) × IsLaterFault now.settings now.store.tree (undo_of_all m cs) why
 
 -- What is left if the batch, whose commands have no fault, is not durable. The batch was refused before it was executed, and nothing changed; or it
 -- was undone; or it is in doubt, and executed in memory.
@@ -70,31 +72,38 @@ abbrev pub IsUnwritten : {D : Type 0} → (D → View) → (D → ℕ) → Bool 
 IsUnwritten view failures able old cs now (Undone fault) =
     ((now ≡ old) × (IsLaterFault old.settings old.store.tree cs fault ⊎ IsTooLongToUndo (contents old.store.tree) cs fault))
     ⊎ IsUndone view failures able old cs fault now
-IsUnwritten view failures able old cs now (InDoubt fault) = IsNotDurable view failures able old cs fault now × IsNotUndone (contents old.store.tree) cs fault now
+IsUnwritten view failures able old cs now (InDoubt fault undo) = IsNotDurable view failures able old cs fault now × IsNotUndone (contents old.store.tree) cs fault undo now
 
 -- the contents of the store after a batch that is not durable: those before the batch, or those that the batch left
 abbrev pub contents_after : Pairs Bytes → List (Command Global) → Unwritten → Pairs Bytes
 contents_after m cs (Undone fault) = m
-contents_after m cs (InDoubt fault) = map_after_all m cs
+contents_after m cs (InDoubt fault undo) = map_after_all m cs
 
 -- the fault of a batch that is not durable
 abbrev pub fault_of : Unwritten → Fault
 fault_of (Undone fault) = fault
-fault_of (InDoubt fault) = fault
+fault_of (InDoubt fault undo) = fault
+
+-- the result, with the fault alone
+abbrev pub with_fault : {X : Type 0} → Result X Unwritten → Result X Fault
+with_fault (Ok x) = Ok x
+with_fault (Err unwritten) = Err (fault_of unwritten)
 
 -- ---- the flush and the undo commands
 
--- After a flush was refused with this fault, the undo commands were executed; or they were not, because a call of the disk had failed, or because they
--- were refused.
+-- the undo commands were not executed: a call of the disk had failed, or they were refused with this fault
+abbrev pub IsUndoRefused : {D : Type 0} → (D → View) → Bool → State D → List (Command Global) → Fault → Option Fault → Type 0
+IsUndoRefused view able now undo fault None = fault ≡ Device
+IsUndoRefused view able now undo fault (Some why) = (fault ≢ Device) × IsRefusedBatch view able now undo why now
+
+-- After a flush was refused with this fault, the undo commands were executed or not.
 abbrev pub IsUndoTried : {D : Type 0} → (D → View) → Bool → State D → List (Command Global) → Fault → State D → Unwritten → Type 0
 IsUndoTried view able old undo fault now (Undone reported) =
     (reported ≡ fault) × (fault ≢ Device) × (replies : List (Reply Global)) × IsExecuted view able old undo replies now
-IsUndoTried view able old undo fault now (InDoubt reported) =
-    (reported ≡ fault) × (now ≡ old) × ((fault ≡ Device) ⊎ ((fault ≢ Device) × (why : Fault) × IsRefusedBatch view able now undo why now))
+IsUndoTried view able old undo fault now (InDoubt reported why) = (reported ≡ fault) × (now ≡ old) × IsUndoRefused view able now undo fault why
 
 -- The flush was refused, and then these undo commands were executed or not.
 abbrev pub IsGivenUp : {D : Type 0} → (D → View) → (D → ℕ) → Bool → State D → List (Command Global) → State D → Unwritten → Type 0
 IsGivenUp {D} view failures able old undo now (Undone fault) =
     (mid : State D) × (fault ≢ Device) × IsUnflushed view failures old fault mid × (replies : List (Reply Global)) × IsExecuted view able mid undo replies now
-IsGivenUp {D} view failures able old undo now (InDoubt fault) =
-    IsUnflushed view failures old fault now × ((fault ≡ Device) ⊎ ((fault ≢ Device) × (why : Fault) × IsRefusedBatch view able now undo why now))
+IsGivenUp {D} view failures able old undo now (InDoubt fault why) = IsUnflushed view failures old fault now × IsUndoRefused view able now undo fault why

@@ -2,7 +2,8 @@
 ghost use Rattle.std.specs.Prelude.{◌≡◌, Err, IfOk, IfErr, MatchOption, MatchResult, true, false};
 ghost use Rattle.keys.specs.Step.{map_after_all, replies_to};
 ghost use Rattle.mapping.specs.Levels.{contents};
-ghost use Rattle.engine.specs.Durable.{IsDurable, IsUnwritten, contents_after};
+ghost use Rattle.engine.specs.ClaimFlush.{MakesDurable};
+ghost use Rattle.engine.specs.Durable.{IsDurable, IsUnwritten, contents_after, with_fault};
 ghost use Rattle.engine.specs.Refusal.{refusal};
 
 use crate::handle::Handle;
@@ -36,6 +37,12 @@ impl<'r, R: Threads + Sync, D: Disk> Handle<'r, R, D> {
             (λ unwritten. contents self.new.store.tree
             ≡ contents_after (contents self.old.store.tree) batch.now unwritten) }
 
+        // If the disk is honest: after success it encodes the contents, and after a failure what it encoded, unless a
+        // call of it failed. A crash at any moment leaves what it encoded, or the contents that the batch left.
+        ensures on_disk { MakesDurable D.view self.old.settings
+            (map_after_all (contents self.old.store.tree) batch.now)
+            self.old.disk self.old.has_failed (with_fault result) self.new }
+
         // Executed as a batch, and flushed: all that is promised of both.
         ensures durable { IfOk result (λ replies. IsDurable D.view D.failed true
             self.old batch.now replies self.new) }
@@ -64,6 +71,9 @@ impl<'r, R: Threads + Sync, D: Disk> Handle<'r, R, D> {
             ≡ map_after_all (contents self.old.store.tree) commands.now)
             (λ unwritten. contents self.new.store.tree
             ≡ contents_after (contents self.old.store.tree) commands.now unwritten) }
+        ensures on_disk { MakesDurable D.view self.old.settings
+            (map_after_all (contents self.old.store.tree) commands.now)
+            self.old.disk self.old.has_failed (with_fault result) self.new }
         ensures durable { IfOk result (λ replies. IsDurable D.view D.failed true
             self.old commands.now replies.items self.new) }
         ensures failed { self.old.has_failed ≡ true →

@@ -6,8 +6,9 @@ ghost use Rattle.keys.specs.Range.{rows};
 ghost use Rattle.keys.specs.Step.{map_after_all, replies_to};
 ghost use Rattle.keys.specs.declared.fault.Fault.TheVariants.{NoMemory};
 ghost use Rattle.mapping.specs.Levels.{contents};
+ghost use Rattle.engine.specs.ClaimFlush.{MakesDurable};
 ghost use Rattle.engine.specs.Copies.{puts_of};
-ghost use Rattle.engine.specs.Durable.{IsDurable, IsFlushed, IsGivenUp, IsUndoTried, IsUnwritten, contents_after, fault_of};
+ghost use Rattle.engine.specs.Durable.{IsDurable, IsFlushed, IsGivenUp, IsUndoTried, IsUnwritten, contents_after, fault_of, with_fault};
 ghost use Rattle.engine.specs.Refusal.{is_crew, longest_batch, refusal};
 ghost use Rattle.engine.specs.Undo.{IsTooLongToUndo, most_restored, restore, undo_of, undo_of_all, undo_within};
 
@@ -36,11 +37,14 @@ pub enum Unwritten {
     /// other page that the batch has changed. So after `Fault::Full` even a small batch may find the log full.
     /// `Store::tidy` merges the emptied leaves.
     Undone(Fault),
-    /// The store has in memory the contents that the batch left. After `Fault::Device` the store has failed: the disk
-    /// holds the store of the last flush that succeeded or that of this one, and `Store::reopen` returns it. After any
-    /// other fault the disk holds the store of the last flush that succeeded, and the batch could not be undone, most
-    /// likely because an allocation failed: a later flush makes the batch durable.
-    InDoubt(Fault),
+    /// The store has in memory the contents that the batch left. `fault` is the flush's. After `Fault::Device` the store
+    /// has failed: the disk holds the store of the last flush that succeeded or that of this one, and `Store::reopen`
+    /// returns it. After any other fault the disk holds the store of the last flush that succeeded, and the batch could
+    /// not be undone: a later flush makes the batch durable.
+    ///
+    /// `undo` is the fault with which the undo commands were refused, `Fault::NoMemory` or `Fault::Spent`. It is `None`
+    /// if and only if `fault` is `Fault::Device`: then they were not executed.
+    InDoubt { fault: Fault, undo: Option<Fault> },
 }
 
 impl Unwritten {
@@ -49,7 +53,7 @@ impl Unwritten {
         ensures { result.now ≡ fault_of self.now }
     {
         match self {
-            Unwritten::Undone(fault) | Unwritten::InDoubt(fault) => fault,
+            Unwritten::Undone(fault) | Unwritten::InDoubt { fault, .. } => fault,
         }
     }
 
@@ -57,8 +61,11 @@ impl Unwritten {
     fn outcome(&self) -> &'static str {
         match self {
             Unwritten::Undone(_) => "The batch has no effect.",
-            Unwritten::InDoubt(Fault::Device) => "The batch may or may not be durable.",
-            Unwritten::InDoubt(_) => {
+            Unwritten::InDoubt {
+                fault: Fault::Device,
+                ..
+            } => "The batch may or may not be durable.",
+            Unwritten::InDoubt { .. } => {
                 "The batch is in memory, and the next flush that succeeds makes it durable."
             }
         }
@@ -82,7 +89,7 @@ impl From<Unwritten> for Fault {
 
     fn from(unwritten: Unwritten) -> Fault {
         match unwritten {
-            Unwritten::Undone(fault) | Unwritten::InDoubt(fault) => fault,
+            Unwritten::Undone(fault) | Unwritten::InDoubt { fault, .. } => fault,
         }
     }
 }
@@ -223,11 +230,14 @@ impl<D: Disk> Store<D> {
         ensures { IsUndoTried D.view (is_crew crew) self.old undo.now fault self.new result }
     {
         if matches!(fault, Fault::Device) {
-            return Unwritten::InDoubt(fault);
+            return Unwritten::InDoubt { fault, undo: None };
         }
         match self.batch(rt, crew, &NoGate, undo) {
             Ok(_replies) => Unwritten::Undone(fault),
-            Err(_refused) => Unwritten::InDoubt(fault),
+            Err(refused) => {
+                let undo = Some(refused);
+                Unwritten::InDoubt { fault, undo }
+            }
         }
     }
 
@@ -243,6 +253,8 @@ impl<D: Disk> Store<D> {
         ensures flushed { OnOk result (IsFlushed D.view D.failed self.old self.new) }
         ensures refused { IfErr result
             (IsGivenUp D.view D.failed (is_crew crew) self.old undo.now self.new) }
+        ensures on_disk { MakesDurable D.view self.old.settings (contents self.old.store.tree)
+            self.old.disk self.old.has_failed (with_fault result) self.new }
     {
         match self.flush_cleaning(rt, crew) {
             Ok(_number) => Ok(()),
@@ -279,6 +291,12 @@ impl<D: Disk> Store<D> {
             ≡ map_after_all (contents self.old.store.tree) commands.now)
             (λ unwritten. contents self.new.store.tree
             ≡ contents_after (contents self.old.store.tree) commands.now unwritten) }
+
+        // If the disk is honest: after success it encodes the contents, and after a failure what it encoded, unless a
+        // call of it failed. A crash at any moment leaves what it encoded, or the contents that the batch left.
+        ensures on_disk { MakesDurable D.view self.old.settings
+            (map_after_all (contents self.old.store.tree) commands.now)
+            self.old.disk self.old.has_failed (with_fault result) self.new }
 
         // Executed as a batch, and flushed: all that is promised of both.
         ensures durable { IfOk result (λ replies. IsDurable D.view D.failed (is_crew crew)

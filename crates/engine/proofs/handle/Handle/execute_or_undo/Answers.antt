@@ -1,11 +1,13 @@
 use Rattle.std.proofs.Common.{◌≡◌, ◌≤◌, None, length, true, refl, sym, ap, subst, ◌∙◌}
 use Rattle.keys.specs.declared.fault.Fault.TheVariants.{Failed}
 use Rattle.mapping.specs.Levels.{contents}
-use Rattle.engine.specs.Durable.{IsFlushed, IsGivenUp}
+use Rattle.engine.specs.Durable.{IsFlushed, IsGivenUp, fault_of}
 use Rattle.engine.specs.Refusal.{longest_batch, refusal}
 use Rattle.engine.specs.Undo.{undo_of_all}
 use Rattle.engine.proofs.DurableLemmas.{contents_by, executed_by, passed_on, refused_first, refused_then, undo_as, undone_as, unwritten_by}
+use Rattle.engine.proofs.DurableOnDisk.{before_named_batch, err, err_on_disk, nothing_on_disk, ok_on_disk, refused_never}
 use Rattle.engine.proofs.RefusedCalls.{not_both}
+use Rattle.engine.proofs.StepDone.{batch_without_device}
 use Rattle.engine.proofs.handle.Handle.execute_or_undo.Goals as goal
 
 -- ---- refused before the batch
@@ -19,6 +21,8 @@ returns-in-Err g c = rw (← c.self.view_is) (
       replies = tt;
       contents = refl;
       durable = tt;
+      on_disk = nothing_on_disk g.D.Disk.view g.met.D.Disk.lawful _ _ old c.in-Err.fault
+          (refused_never _ (contents old.store.tree) cs c.in-Err.fault old.settings old.has_failed true checks.failed (λ _ unable. absurd (not_both true refl unable)) (λ fine _. checks.refused fine c.self.invariant.in_range));
       failed = λ bad. (undone_as c.in-Err.fault Failed (checks.failed bad), refl);
       refused = λ fine. refused_first g.D.Disk.view g.D.Disk.failed true old cs _ _ c.in-Err.fault (refusal old.settings cs) (checks.refused fine c.self.invariant.in_range);
     })
@@ -37,6 +41,8 @@ returns-in-Err-execute_all g c =
       replies = tt;
       contents = ap (λ x. contents x.store.tree) batch.unchanged;
       durable = tt;
+      on_disk = rw batch.unchanged (nothing_on_disk g.D.Disk.view g.met.D.Disk.lawful _ _ old c.in-Err-execute_all.fault
+          (batch_without_device old.settings old.store cs (err _ c.in-Err-execute_all.fault) old.has_failed true batch.failed batch.bad_crew batch.refused));
       failed = λ bad. absurd (not_both old.has_failed bad fine);
       refused = λ _. refused_then g.D.Disk.view g.D.Disk.failed true old cs _ _ c.in-Err-execute_all.fault c.execute_all.new.self (refusal old.settings cs) none batch.unchanged (batch.refused fine refl);
     }
@@ -58,6 +64,12 @@ returns-in-Ok-flush_or_undo-clause-durable g c =
       executed = executed_by g.D.Disk.view true c.args.self.now c.args.commands.now c.in-Ok-execute_all.replies _ c.execute_all.new.self c.in-Ok-execute_all.ensures;
       flushed = subst (λ x. IsFlushed g.D.Disk.view g.D.Disk.failed x c.flush_or_undo.new.self) c.self-2.view_is c.in-Ok-flush_or_undo.ensures.flushed;
     }
+
+pub returns-in-Ok-flush_or_undo-clause-on_disk : goal.returns-in-Ok-flush_or_undo-clause-on_disk
+returns-in-Ok-flush_or_undo-clause-on_disk g c =
+    let batch = c.in-Ok-execute_all.ensures in
+    ok_on_disk g.D.Disk.view _ _ _ _ _ c.in-Ok-execute_all.replies c.flush_or_undo.new.self
+    (before_named_batch g.D.Disk.view _ c.args.self.now c.execute_all.new.self c.self-2.inside.store c.flush_or_undo.new.self _ c.self-2.view_is batch.rest batch.contents c.in-Ok-flush_or_undo.ensures.on_disk)
 
 -- the flush is refused
 pub returns : goal.returns
@@ -84,6 +96,8 @@ returns g c =
       replies = tt;
       contents = contents_by g.D.Disk.view g.D.Disk.failed true old mid now cs undo _ fine refl proper rises none is short executed unwritten given;
       durable = tt;
+      on_disk = err_on_disk g.D.Disk.view _ _ _ _ _ (fault_of unwritten) now now (refl, refl, refl)
+          (before_named_batch g.D.Disk.view _ old mid c.self-2.inside.store now _ c.self-2.view_is batch.rest batch.contents c.in-Err-flush_or_undo.ensures.on_disk);
       failed = λ bad. absurd (not_both old.has_failed bad fine);
       refused = λ _. passed_on (refusal old.settings cs) _ _ none (unwritten_by g.D.Disk.view g.D.Disk.failed true old mid now cs undo _ fine refl proper rises none is short executed unwritten given);
     }

@@ -1,4 +1,4 @@
-use Rattle.std.proofs.Common.{inr, refl, sym, subst}
+use Rattle.std.proofs.Common.{refl, sym, subst}
 use Rattle.engine.specs.Durable.{IsRefusedBatch}
 use Rattle.engine.specs.Refusal.{is_crew}
 use Rattle.engine.proofs.DurableLemmas.{executed_by, refused_by}
@@ -19,6 +19,6 @@ returns-in-Err g c =
     elim c.match-matches.branch [
       | in-Device w ↦ absurd (not_both _ w.matches-is c.if-matches.false)
       | in_default w ↦
-          let refused = refused_by g.D.Disk.view (is_crew c.args.crew) c.args.self.now c.args.undo.now c.in-Err._refused _ c.batch.new.self batch in
-          (refl, batch.unchanged, inr (w.in_default.not-Device, c.in-Err._refused, subst (λ x. IsRefusedBatch g.D.Disk.view (is_crew c.args.crew) x c.args.undo.now c.in-Err._refused c.batch.new.self) (sym batch.unchanged) refused))
+          let refused = refused_by g.D.Disk.view (is_crew c.args.crew) c.args.self.now c.args.undo.now c.in-Err.refused _ c.batch.new.self batch in
+          (refl, batch.unchanged, (w.in_default.not-Device, subst (λ x. IsRefusedBatch g.D.Disk.view (is_crew c.args.crew) x c.args.undo.now c.in-Err.refused c.batch.new.self) (sym batch.unchanged) refused))
     ]
