@@ -1,10 +1,10 @@
 -- Lemmas on lines of a stream, of which only the beginning is kept.
-use Rattle.std.proofs.Common.{◌≡◌, ◌≢◌, ◌≤◌, ◌<◌, ◌+◌, ◌-◌, ◌==◌, ◌&&◌, ◌⊎◌, inl, inr, ℕ, length, take, take_all, length-take, length-append, slice_index, Bool, true, false, cond, List, [], ◌∷◌, ◌++◌, All, Option, Some, None, IfSome, Result, IfOk, OnSome, refl, sym, ap, ◌∙◌, subst, arith, lt-ltb, le_refl, nat_lt}
+use Rattle.std.proofs.Common.{◌≡◌, ◌≢◌, ◌≤◌, ◌<◌, ◌+◌, ◌-◌, ◌==◌, ◌&&◌, ◌⊎◌, inl, inr, ℕ, length, take, take_all, length-append, slice_index, Bool, true, false, cond, List, [], ◌∷◌, ◌++◌, Option, Some, None, IfSome, refl, sym, ap, ◌∙◌, subst, arith, lt-ltb, le_refl, nat_lt}
 use Rattle.std.proofs.lemmas.List.{length-take-le, take-append-le, take-take}
 use Rattle.std.proofs.lemmas.List.Elements.{All-nil}
 use Rattle.std.specs.Io.{StopsAt}
 use Rattle.std.specs.Io.BufRead.{DropsThrough, drop_through, take_through}
-use Rattle.std.specs.Io.KnownBytes.{Consumes, IsAtEnd}
+use Rattle.std.specs.Io.KnownBytes.{Consumes}
 use Rattle.std.proofs.BufReadLemmas.{Consumes_through, take_through-append}
 use Rattle.std.proofs.KnownBytes.{Consumes-nil, Consumes-trans}
 use Rattle.std.proofs.Transfers.{StopsAt-append}
@@ -132,6 +132,3 @@ front-at_end known mid left text new (read, stops, open_end) (bytes, is, taken, 
     let nothing : bytes ≡ [] = last_byte-none bytes (sym ends) in
     front_is known left text new bytes is
     (Consumes_through 10 known mid left text bytes read (none_inside text stops open_end) taken part_stops (nothing_ends bytes nothing) (λ none. end refl))
-
-pub front-long : (known left : Option (List ℕ)) (text : List ℕ) → IsBegun known left text → most_in_line + 3 ≤ length text → IsFront known left text false
-front-long known left text (read, stops, open_end) long = (read, stops, open_end, long)
