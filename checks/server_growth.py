@@ -10,7 +10,7 @@ from pathlib import Path
 from tools.cases import Case, Outcome
 from tools.failures import FailingCalls
 from tools.processes import NO_VARIABLES, new_folder
-from tools.serving import Client, Pairs, Server, read_all, serving
+from tools.serving import Client, Pairs, Server, Word, read_all, serving
 
 BATCHES, ROWS = 30, 1_000  # all of them have no room in the smallest log
 SMALLEST = ("--segments", "3")
@@ -187,7 +187,7 @@ def overwrite_larger(program: Path) -> Outcome:
 def grow_at_once(program: Path) -> Outcome:
     """If a log that is twice as large has no room either, a larger one is made."""
     rows = [{b"%d:%05d" % (part, row): b"v" * LARGE for row in range(KEYS)} for part in range(3)]
-    requests = [["MSET", *(word for pair in part.items() for word in pair)] for part in rows]
+    requests: list[list[Word]] = [["MSET", *(word for pair in part.items() for word in pair)] for part in rows]
     with new_folder() as folder:
         path = Path(folder) / "store"
         with serving(program, path, *SMALLEST) as server, server.client() as client:

@@ -5,7 +5,7 @@ from pathlib import Path
 
 from tools.cases import Case, Outcome
 from tools.processes import MEGABYTE, new_folder, resident_memory
-from tools.serving import differing, serving
+from tools.serving import Word, differing, serving
 
 NAPS = 1.2  # seconds
 
@@ -21,7 +21,8 @@ def count_requests(program: Path) -> Outcome:
                     client.ask("SET", f"k{restarts}{number}", "v")
                 client.ask("GET", "k1")
                 alone = client.numbers()
-                client.ask_all([["MULTI"], *([["SET", "t", number] for number in range(7)]), ["EXEC"]])
+                puts: list[list[Word]] = [["SET", "t", number] for number in range(7)]
+                client.ask_all([["MULTI"], *puts, ["EXEC"]])
                 passed = int((time.monotonic() - start) * 1_000_000)
                 found = client.numbers()
             names = ("rounds", "requests", "commands", "longest_round_commands", "flushes", "commits", "log_growths", "growth_usec")

@@ -431,7 +431,8 @@ class Living:
     """A life that is being lived: its host, its pairs, and the steps that are to come."""
 
     def __init__(self, life: Life, host: Host) -> None:
-        self.host, self.pairs, self.steps = host, Pairs(), life.service.steps(life.service)
+        self.host, self.steps = host, life.service.steps(life.service)
+        self.pairs: Pairs = {}
         self.is_flushing, self.prepared = life.service.is_flushing, life.service.prepare(life.service)
         cycle = life.service.cycle
         self.window = cycle * max(1, -(-LEAST_WINDOWS[life.host] // cycle))
