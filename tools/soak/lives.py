@@ -181,6 +181,7 @@ class Log:
     use: str = "new"
     is_cleaning: bool = True
     in_file: bool = True
+    segments: int | None = None  # None for a log that never refuses the service
 
     def options(self, service: Service) -> list[str]:
         """Returns settings of a log that never refuses this service, as `Settings::for_pairs` computes them, but with smaller segments."""
@@ -188,7 +189,7 @@ class Log:
         text = pairs * (5 + key + value) + (2 * pairs // self.fan + 1) * (28 + 2 * key)
         longest = 33 + key + self.fan * (3 + key + max(2 + value, 8))
         size = max(8 * longest // 3, 16_384)
-        segments = max(16, (8 * (self.chain + 2) // 7 + 1) * text // size + 4)
+        segments = self.segments or max(16, (8 * (self.chain + 2) // 7 + 1) * text // size + 4)
         numbers = {"fan": self.fan, "chain": self.chain, "max-key": key, "max-value": value, "seg-size": size, "segments": segments}
         return [f"--{name}={number}" for name, number in numbers.items()]
 
