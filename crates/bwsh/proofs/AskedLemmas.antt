@@ -1,5 +1,5 @@
 -- The meaning of the words of the command line is the result of `clap`, or its reason to refuse them.
-use Rattle.std.proofs.Common.{◌≡◌, ◌∙◌, ◌⊎◌, ◌++◌, ◌||◌, ◌&&◌, ◌==◌, not, ap, refl, sym, subst, inl, inr, Bool, true, false, cond, List, [], ◌∷◌, map, Option, Some, None, Result, Ok, Err, IfErr, IsErrAnd, codes}
+use Rattle.std.proofs.Common.{◌≡◌, ◌∙◌, ◌⊎◌, ◌++◌, ◌||◌, ◌&&◌, ◌==◌, not, ap, refl, sym, subst, inl, inr, ℕ, Bool, true, false, cond, List, [], ◌∷◌, map, Option, Some, None, Result, Ok, Err, IfErr, IsErrAnd, codes}
 use Rattle.std.specs.Prelude.{is_some, pos}
 use Rattle.std.specs.List.{fold, list_all, list_any}
 use Rattle.std.specs.Str.{bytes_eq}
@@ -15,7 +15,7 @@ use Rattle.clap.specs.declared.error.Error.{Error}
 use Rattle.clap.specs.declared.error.kind.ErrorKind.{ErrorKind}
 use Rattle.clap.specs.declared.error.kind.ErrorKind.TheVariants.{ArgumentConflict, DisplayHelp, OutOfMemory, ValueValidation}
 use Rattle.clap.proofs.WalkLemmas.{both}
-use Rattle.bwsh.specs.Options.{Asked, options, help, refused, Given, IsRightKind, Text, asked, asked_from, flag_names, go_together, is_number, is_refusal, path_names, takes_nothing, takes_number, takes_path, together}
+use Rattle.bwsh.specs.Options.{Asked, options, help, refused, Given, IsRightKind, Text, are_usable, asked, asked_from, flag_names, gives_size, go_together, is_given, is_number, is_refusal, pairs_of, path_names, takes_nothing, takes_number, takes_path, together}
 use Rattle.bwsh.specs.CommandLine.{AreGivable, built_flag, built_number, built_path, built_rules, bwsh, finished_rows, given_row, number_defaults}
 use Rattle.bwsh.proofs.TurnLemmas.{HasOptions, TakesText, any_of, built_help, held, or_else-none, shape, standing}
 use Rattle.bwsh.proofs.CommandLineLemmas.{Comes, rest_fault, rest_rows, words_come}
@@ -235,14 +235,27 @@ error_is_right words e (inr among) = (from_asked words _ _ (parsed words) refl (
 
 -- if the given options go together, the words ask for them; otherwise, the words are refused
 pub asked_by_parsed : (words : List Text) (given : Given) (b : Bool) → parsed words ≡ options given → go_together given ≡ b → asked words ≡ cond b (options given) refused
-asked_by_parsed words given b is together_is = ap together is ∙ ap (λ (t : Bool). cond t (options given) refused) together_is
+asked_by_parsed words given b is usable = ap together is ∙ ap (λ (t : Bool). cond t (options given) refused) usable
+
+usable_same : {a b : ℕ} {c d e f : Bool} → a ≡ b → c ≡ d → e ≡ f → are_usable a c e ≡ are_usable b d f
+usable_same a c e = rw (a, c, e) refl
+
+or_same : {a b c d : Bool} → a ≡ c → b ≡ d → (a || b) ≡ (c || d)
+or_same a b = rw (a, b) refl
+
+-- the given options go together if the program finds their number of pairs usable
+pub together_is : (given : Given) (pairs : ℕ) (is_new creates has_copy has_size b : Bool) → pairs ≡ pairs_of given → is_new ≡ (creates || has_copy)
+    → creates ≡ is_given (codes "create") given → has_copy ≡ is_given (codes "copy-to") given → has_size ≡ gives_size given
+    → are_usable pairs is_new has_size ≡ b → go_together given ≡ b
+together_is given pairs is_new creates has_copy has_size b of_pairs new create copy size usable =
+    sym (usable_same of_pairs (new ∙ or_same create copy) size) ∙ usable
 
 -- an error that `--pairs` causes is right
 pub pairs_error_is_right : (words : List Text) (given : Given) (kind : ErrorKind) (b : Bool) → parsed words ≡ options given → go_together given ≡ b
     → (kind ≡ OutOfMemory) ⊎ ((kind ≡ ArgumentConflict) × (b ≡ false)) → IsRightKind words kind
-pairs_error_is_right words given kind b is together_is (inl memory) = inl memory
-pairs_error_is_right words given kind b is together_is (inr (conflict, no)) =
-    inr (inr (ap is_refusal conflict, asked_by_parsed words given false is (together_is ∙ no)))
+pairs_error_is_right words given kind b is usable (inl memory) = inl memory
+pairs_error_is_right words given kind b is usable (inr (conflict, apart)) =
+    inr (inr (ap is_refusal conflict, asked_by_parsed words given false is (usable ∙ apart)))
 
 pub handed_on : {X : Type 0} (r : Result X Error) (e : Error) (P : Error → Type 0) → IsErrAnd r (λ f. f ≡ e) → P e → IfErr r P
 handed_on (Ok x) e P h p = absurd h

@@ -1,5 +1,5 @@
 -- The values of the options: those that were given, and the defaults of the others.
-use Rattle.std.proofs.Common.{◌≡◌, ◌∙◌, ◌++◌, ◌||◌, ap, refl, sym, subst, ℕ, Bool, true, false, cond, List, [], ◌∷◌, map, not, Option, Some, None, append-nil, codes, is_some, ⊥}
+use Rattle.std.proofs.Common.{◌≡◌, ◌∙◌, ◌++◌, ◌||◌, ap, refl, sym, subst, ℕ, Bool, true, false, cond, List, [], ◌∷◌, map, not, Option, Some, None, append-nil, codes, is_some}
 use Rattle.std.specs.List.{find, fold}
 use Rattle.std.specs.Option.{option_map, option_or}
 use Rattle.std.specs.Prelude.{nat_le, option_and_then, slice_get, unwrap_or}
@@ -262,13 +262,28 @@ source_read name is given f rows =
     go (Some g) e = ap (option_and_then (λ (r : Row). r.source)) (found_at name given (Some g) e)
     go None e = ap (option_and_then (λ (r : Row). r.source)) (found_at name given None e) ∙ default_number name is
 
--- a path is given if there is one
-pub path_is_given : (name : Text) (given : Given) (path : Option Text) → path ≡ path_of name given → is_some path ≡ is_given name given
-path_is_given name given path is = ap is_some is ∙ go (find (λ g. bytes_eq g.0 name) given) ∙ sym (given_found name given)
+-- the value comes from the command line
+abbrev pub is_from_words : Option ValueSource → Bool
+is_from_words (Some CommandLine) = true
+is_from_words _ = false
+
+pub source_given : (name : Text) → takes_number name ≡ true → (given : Given) (f : Found) (r : Option ValueSource) (b : Bool) → rows_of f ≡ finished_rows given
+    → r ≡ option_and_then (λ a. a.source) (matched_of f name) → is_from_words r ≡ b → b ≡ is_given name given
+source_given name is given f r b rows read from = sym from ∙ ap is_from_words (read ∙ source_read name is given f rows) ∙ go (is_given name given)
   where
-    go : (o : Option (Text × Text)) → is_some (option_map (λ g. g.1) o) ≡ is_some o
-    go None = refl
-    go (Some g) = refl
+    go : (d : Bool) → is_from_words (Some (source_by d)) ≡ d
+    go true = refl
+    go false = refl
+
+-- a path is given if there is one
+pub path_is_given : {X : Type 0} (name : Text) (given : Given) (text : X → Text) (path : Option X) → option_map text path ≡ path_of name given
+    → is_some path ≡ is_given name given
+path_is_given name given text path is =
+    sym (some_map text path) ∙ ap is_some is ∙ some_map (λ (g : Text × Text). g.1) (find (λ g. bytes_eq g.0 name) given) ∙ sym (given_found name given)
+  where
+    some_map : {X Y : Type 0} (f : X → Y) (o : Option X) → is_some (option_map f o) ≡ is_some o
+    some_map f None = refl
+    some_map f (Some x) = refl
 
 -- ---- the settings for a number of pairs
 

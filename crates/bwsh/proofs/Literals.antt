@@ -16,7 +16,7 @@ use Rattle.bwsh.specs.Words.{words_of}
 use Rattle.bwsh.specs.Line.{parse_line}
 use Rattle.bwsh.specs.Number.{number_in}
 use Rattle.bwsh.specs.declared.options.asked.Mode.{Mode}
-use Rattle.bwsh.specs.Options.{asked, mode_of, options, path_of, refused, request_by, settings_of}
+use Rattle.bwsh.specs.Options.{Given, asked, mode_of, options, path_of, refused, request_by, settings_of}
 use Rattle.bwsh.specs.Shown.{shown_reply}
 use Rattle.bwsh.specs.BatchFile.{asked as ordered, first_bad, orders_of, pieces}
 use Rattle.bwsh.specs.BatchFile.Pending.{begun}
@@ -217,7 +217,7 @@ some_options = refl
 abbrev no_ways : Mode
 no_ways = record { version = false; explain = false; stat = false; clean_when_full = false; stream = false; tidy = 0; wait = 0; progress = false }
 
-request_options : let given = (codes "create", codes "true") ∷ (codes "disk", codes "a b") ∷ (codes "fan", codes "8") ∷ [] in
+request_options : let given : Given = (codes "create", codes "true") ∷ (codes "disk", codes "a b") ∷ (codes "fan", codes "8") ∷ [] in
     request_by given (settings_of given)
     ≡ record { settings = record { fan = 8; chain = 4; max_key = 64; max_value = 256; seg_size = 65536; segments = 64 }; crew = record { workers = 1; grain = 64 }; disk = Some (codes "a b"); create = true; copy_to = None; mode = no_ways }
 request_options = refl
