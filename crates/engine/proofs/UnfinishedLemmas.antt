@@ -1,7 +1,7 @@
 -- Whether a disk has only zeros, or hides a settings block, and whether a store was complete there.
 use Rattle.std.proofs.Common.{◌≡◌, ◌<◌, ◌≤◌, ◌+◌, ◌&&◌, ◌||◌, ◌==◌, nat_le, ℕ, Bool, true, false, List, [], ◌∷◌, ◌++◌, length, get_or, take, drop, slice_set, is_some, refl, sym, ap, ap₂, ◌∙◌, arith}
 use Rattle.std.proofs.lemmas.Bool.Decides.{nat_tests}
-use Rattle.std.proofs.lemmas.List.{drop-drop, drop-take, length-take, take-append-drop, take-take}
+use Rattle.std.proofs.lemmas.List.{drop-take, length-take, take-append-drop, take-take}
 use Rattle.std.proofs.lemmas.List.Folds.{list_all-append}
 use Rattle.flush_log.proofs.BlockReading.{no_block}
 use Rattle.engine.specs.Hidden.{are_zeros, exchanged, exchanged_byte, hides_block, is_later_slot, was_complete}
@@ -51,21 +51,11 @@ none_complete file short =
     let test : nat_le 256 (length file) ≡ false = grind (arith, short, nat_tests) in
     sym (ap (λ (b : Bool). b && (is_later_slot (take 64 (drop 128 file)) || is_later_slot (take 64 (drop 192 file)))) test)
 
--- each of the two, in the bytes of both
-first_of : (file slots : List ℕ) → slots ≡ take 128 (drop 128 file) → take 64 slots ≡ take 64 (drop 128 file)
-first_of file slots is = ap (take 64) is ∙ take-take 64 128 (drop 128 file) (omega arith)
-
-second_of : (file slots : List ℕ) → slots ≡ take 128 (drop 128 file) → drop 64 slots ≡ take 64 (drop 192 file)
-second_of file slots is = ap (drop 64) is ∙ drop-take 64 64 (drop 128 file) ∙ ap (take 64) (drop-drop 64 128 file)
-
--- the two
-pub later_slots : (file slots first second : List ℕ) (a b : Bool) → 256 ≤ length file → slots ≡ take 128 (drop 128 file) → first ≡ take 64 slots → second ≡ drop 64 slots
-    → a ≡ is_later_slot first → b ≡ is_later_slot second → (a || b) ≡ was_complete file
-later_slots file slots first second a b room is first_is second_is a_is b_is =
+-- what was read of them
+pub later_slots : (file : List ℕ) (a b : Bool) → 256 ≤ length file → a ≡ is_later_slot (take 64 (drop 128 file)) → b ≡ is_later_slot (take 64 (drop 192 file)) → (a || b) ≡ was_complete file
+later_slots file a b room first second =
     let test : nat_le 256 (length file) ≡ true = grind (arith, room, nat_tests) in
-    let one : a ≡ is_later_slot (take 64 (drop 128 file)) = a_is ∙ ap is_later_slot (first_is ∙ first_of file slots is) in
-    let other : b ≡ is_later_slot (take 64 (drop 192 file)) = b_is ∙ ap is_later_slot (second_is ∙ second_of file slots is) in
-    ap₂ (λ (x y : Bool). x || y) one other
+    ap₂ (λ (x y : Bool). x || y) first second
     ∙ sym (ap (λ (t : Bool). t && (is_later_slot (take 64 (drop 128 file)) || is_later_slot (take 64 (drop 192 file)))) test)
 
 -- ---- of a disk that was only read

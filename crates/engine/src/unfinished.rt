@@ -10,8 +10,8 @@ use flush_log::{Disk, DiskFault, SLOT_SIZE, SLOTS_BEGIN, read_settings, slot_in}
 // How many bytes the settings block has.
 const BLOCK_SIZE: usize = 64;
 
-// How many bytes both slots have.
-const SLOTS_SIZE: usize = 2 * SLOT_SIZE;
+// Where the second slot begins.
+const SECOND_SLOT: u64 = SLOTS_BEGIN + SLOT_SIZE as u64;
 
 // The greatest sequence number that a store has before its first byte is written: creation gives 1, and the flush of a
 // copy's pairs 2.
@@ -45,6 +45,20 @@ fn is_later_slot(bytes: &[u8]) -> bool
     bytes[0] == 1 && slot_in(bytes).ends.sequence > LAST_OF_CREATION
 }
 
+// Whether the disk has such a slot at this place.
+fn has_later_slot<D: Disk>(disk: &mut D, at: u64) -> Result<bool, DiskFault>
+    requires { at + slot_size ≤ (D.view disk.old).size }
+    ensures kept { Kept (D.view disk.old) (D.view disk.new) }
+    ensures failed { CountsFailure result (D.failed disk.old) (D.failed disk.new) }
+    ensures exact { IsTrue (D.view disk.old).is_honest → IfOk result (λ has.
+        has ≡ is_later_slot (take slot_size (drop at (D.view disk.old).seen))) }
+    ensures same { OnlyRead (D.view disk.old) (D.view disk.new) }
+{
+    let mut slot = [0; SLOT_SIZE];
+    disk.read_at(at, &mut slot)?;
+    Ok(is_later_slot(&slot))
+}
+
 // Whether the disk has a slot that creation does not write, so that a store was complete there.
 fn was_complete<D: Disk>(disk: &mut D) -> Result<bool, DiskFault>
     ensures kept { Kept (D.view disk.old) (D.view disk.new) }
@@ -53,12 +67,12 @@ fn was_complete<D: Disk>(disk: &mut D) -> Result<bool, DiskFault>
         IfOk result (λ complete. complete ≡ was_complete (D.view disk.old).seen) }
     ensures same { OnlyRead (D.view disk.old) (D.view disk.new) }
 {
-    if disk.len() < SLOTS_BEGIN + SLOTS_SIZE as u64 {
+    if disk.len() < SECOND_SLOT + SLOT_SIZE as u64 {
         return Ok(false);
     }
-    let mut slots = [0; SLOTS_SIZE];
-    disk.read_at(SLOTS_BEGIN, &mut slots)?;
-    Ok(is_later_slot(&slots[..SLOT_SIZE]) || is_later_slot(&slots[SLOT_SIZE..]))
+    let first = has_later_slot(disk, SLOTS_BEGIN)?;
+    let second = has_later_slot(disk, SECOND_SLOT)?;
+    Ok(first | second)
 }
 
 // Whether the disk hides a store whose creation was not completed.
@@ -122,7 +136,7 @@ fn has_only_zeros<D: Disk>(disk: &mut D) -> Result<bool, DiskFault>
 /// 1, and a copy 2; so a disk with a greater one had a complete store, whose first byte is damaged, or which an attempt
 /// to create another store there has hidden.
 ///
-/// Only reads: first 64 bytes, then the 128 bytes of the slots, and then, if these do not decide, 4,096 bytes at a time
+/// Only reads: first 64 bytes, then the 64 bytes of each slot, and then, if these do not decide, 4,096 bytes at a time
 /// up to the first piece that has a byte other than 0. So only a disk of zeros is read to its end. Fails with
 /// `DiskFault` if a read fails.
 pub fn is_unfinished<D: Disk>(disk: &mut D) -> Result<bool, DiskFault>

@@ -268,23 +268,58 @@ fn store_on<D: Disk>(
     requires { IsSound D.view (state_on (with_written written memory) disk has_failed) }
     ensures { result ≡ state_on (with_written written memory) disk has_failed }
 {
+    match written {
+        Some(slot) => store_written(memory, slot, disk, has_failed),
+        None => store_unwritten(memory, disk, has_failed),
+    }
+}
+
+// The store on its disk, after a commit with this slot was written.
+fn store_written<D: Disk>(
+    memory: StoreInMemory,
+    slot: Slot,
+    disk: D,
+    has_failed: bool,
+) -> Store<D>
+    requires { IsSound D.view (state_on (with_written (Some slot) memory) disk has_failed) }
+    ensures { result ≡ state_on (with_written (Some slot) memory) disk has_failed }
+{
     // Only for the proof.
     a_table_marked_as_written_holds_the_flushed_tree();
     let StoreInMemory {
         settings,
         alloc,
         mut tree,
+        log: _log,
+        version: _version,
+        pairs,
+    } = memory;
+    tree.flushed();
+    Store {
+        settings,
+        alloc,
+        tree,
+        log: slot.ends,
+        version: slot.version,
+        disk,
+        has_failed,
+        pairs,
+    }
+}
+
+// The store on its disk, to which nothing was written.
+fn store_unwritten<D: Disk>(memory: StoreInMemory, disk: D, has_failed: bool) -> Store<D>
+    requires { IsSound D.view (state_on memory disk has_failed) }
+    ensures { result ≡ state_on memory disk has_failed }
+{
+    let StoreInMemory {
+        settings,
+        alloc,
+        tree,
         log,
         version,
         pairs,
     } = memory;
-    let (log, version) = match written {
-        Some(slot) => {
-            tree.flushed();
-            (slot.ends, slot.version)
-        }
-        None => (log, version),
-    };
     Store {
         settings,
         alloc,
