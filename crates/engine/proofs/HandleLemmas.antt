@@ -1,10 +1,9 @@
 -- The calls of a handle: what one that executes one command says, by the batch that it makes, and the reply that a token finds.
-use Rattle.std.specs.Prelude.{◌≡◌, ◌+◌, ◌-◌, ◌^◌, ◌≤◌, ℕ, zero, suc, ⊤, Bool, true, false, not, is_some, if◌then◌else◌, List, [], ◌∷◌, length, take, drop, slice_get, Option, Some, None, Result, Ok, Err, MatchOption, OnOk, OnErr}
+use Rattle.std.specs.Prelude.{◌≡◌, ◌-◌, ℕ, zero, suc, ⊤, Bool, true, false, not, is_some, if◌then◌else◌, List, [], ◌∷◌, length, take, drop, slice_get, Option, Some, None, Result, Ok, Err, MatchOption, OnOk, OnErr}
 use Rattle.std.proofs.Common.{refl, sym, ap, ◌∙◌, subst, inl, inr}
 use Rattle.std.specs.declared.alloc.Global.{Global}
 use Rattle.keys.specs.Bytes.{Bytes, Pairs}
 use Rattle.keys.specs.OrderedMap.{value_at, with_pair, without}
-use Rattle.keys.specs.Order.{IsRising}
 use Rattle.keys.specs.Range.{in_range, out_of_range}
 use Rattle.keys.specs.Step.{reply_to, map_after, replies_to, map_after_all}
 use Rattle.keys.specs.declared.command.Command.{Command}

@@ -275,12 +275,7 @@ fn store_on<D: Disk>(
 }
 
 // The store on its disk, after a commit with this slot was written.
-fn store_written<D: Disk>(
-    memory: StoreInMemory,
-    slot: Slot,
-    disk: D,
-    has_failed: bool,
-) -> Store<D>
+fn store_written<D: Disk>(memory: StoreInMemory, slot: Slot, disk: D, has_failed: bool) -> Store<D>
     requires { IsSound D.view (state_on (with_written (Some slot) memory) disk has_failed) }
     ensures { result ≡ state_on (with_written (Some slot) memory) disk has_failed }
 {

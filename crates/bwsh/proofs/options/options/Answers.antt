@@ -15,10 +15,9 @@ returns-clause-ok c =
     let disk = c.in_ok-disk.ensures refl given rows in
     let copy = c.in_ok-copy_to.ensures refl given rows in
     let new : c.if-create.check_pairs ≡ (c.flag_at-create.result || is_some c.in_ok-copy_to.copy_to) =
-        elim c.if-create.branch [ then-create w ↦ (search rules) | else-create w ↦ (search rules) ] in
+    elim c.if-create.branch [ then-create w ↦ (search rules) | else-create w ↦ (search rules) ] in
     let usable = together_is given _ _ _ _ _ true pairs new create (path_is_given (codes "copy-to") given string_bytes c.in_ok-copy_to.copy_to copy)
-        (c.has_size.ensures given rows) c.in_ok-check_pairs.ensures.ok in
-    (
+    (c.has_size.ensures given rows) c.in_ok-check_pairs.ensures.ok in (
       given,
       asked_by_parsed words given true parsed usable,
       c.asked_settings.ensures given all rows pairs,
@@ -36,9 +35,9 @@ returns-in_err-check_pairs-clause-err c =
     let create = c.flag_at-create.ensures refl given all rows in
     let copy = c.in_ok-copy_to.ensures refl given rows in
     let new : c.if-create.check_pairs ≡ (c.flag_at-create.result || is_some c.in_ok-copy_to.copy_to) =
-        elim c.if-create.branch [ then-create w ↦ (search rules) | else-create w ↦ (search rules) ] in
+    elim c.if-create.branch [ then-create w ↦ (search rules) | else-create w ↦ (search rules) ] in
     let usable = together_is given _ _ _ _ _ _ pairs new create (path_is_given (codes "copy-to") given string_bytes c.in_ok-copy_to.copy_to copy)
-        (c.has_size.ensures given rows) refl in
+    (c.has_size.ensures given rows) refl in
     let error = c.in_err-check_pairs.field-0.0 in
     handed_on c.from_residual-in_err-check_pairs.result error (λ e. IsRightKind words (kind_of e)) c.from_residual-in_err-check_pairs.ensures.1
     (pairs_error_is_right words given (kind_of error) _ parsed usable c.in_err-check_pairs.ensures.err)

@@ -1,4 +1,4 @@
-use Rattle.std.proofs.Common.{◌≡◌, ◌⊎◌, ◌∷◌, [], ◌∙◌, ap, subst, ℕ, Some, Ok, Err}
+use Rattle.std.proofs.Common.{◌⊎◌, ◌∷◌, [], ◌∙◌, ap, subst, ℕ, Some}
 use Rattle.keys.specs.declared.settings.Settings.{Settings}
 use Rattle.mapping.specs.Levels.{contents}
 use Rattle.bwsh.specs.declared.order.Order.TheVariants.{Copy}

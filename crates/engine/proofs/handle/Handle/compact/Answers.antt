@@ -1,4 +1,3 @@
-use Rattle.std.proofs.Common.{length, sym, ap, ◌∙◌}
 use Rattle.engine.proofs.HandleLemmas.{compacted_or_not}
 use Rattle.engine.proofs.handle.Handle.compact.Goals as goal
 

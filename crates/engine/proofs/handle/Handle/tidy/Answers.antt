@@ -1,4 +1,3 @@
-use Rattle.std.proofs.Common.{length, sym, ap, ◌∙◌}
 use Rattle.engine.proofs.handle.Handle.tidy.Goals as goal
 
 pub returns-clause-contents : goal.returns-clause-contents
