@@ -86,11 +86,11 @@ def refuse_full(programs: Programs) -> Outcome:
     return Outcome(differs(ran, 0, out))
 
 
-def refuse_memory(programs: Programs) -> Outcome:
-    """A line that does not fit in memory is refused with its batch, and the stream continues."""
+def refuse_long_line(programs: Programs) -> Outcome:
+    """A line that would not fit in memory is refused with its batch as too long, and the stream continues."""
     long = b"put b " + 30_000_000 * b"x" + b"\n"
     ran = run([programs.store, "--stream"], b"put a 1\ngo\nput c 1\n" + long + b"put d 1\nflush\nscan % * 9\ngo\n", Limits(memory=20_000))
-    return Outcome(differs(ran, 0, b"new\nfault 6 NoMemory\nflushed 2\nrows 1\na 1\n"))
+    return Outcome(differs(ran, 0, b"new\nline 4: line too long\nflushed 2\nrows 1\na 1\n"))
 
 
 def free_long_batch(programs: Programs) -> Outcome:
@@ -364,7 +364,7 @@ def cases(programs: Programs) -> list[Case]:
         Case("a pipe that is closed", close_answers, (programs,)),
         *refusals,
         Case("a stream goes on after a full log", refuse_full, (programs,)),
-        Case("a stream goes on after a line without memory", refuse_memory, (programs,)),
+        Case("a stream goes on after a line that would not fit in memory", refuse_long_line, (programs,)),
         Case("a batch without an end", free_long_batch, (programs,)),
         *dots,
         Case("the lines of a stream", ask_for_help, (programs,)),

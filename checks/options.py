@@ -400,21 +400,25 @@ def fill_by_pairs(programs: Programs) -> Outcome:
 
 
 MEMORY = 20_000  # KB of address space, enough for a small store
-LONG_LINE = b"#" * 30_000_000
-UNREAD = b"line %d: There was not enough memory to read it.\n"
+LONG_COMMENT, LONG_PUT_LINE = b"#" * 30_000_000, b"put b " + b"x" * 30_000_000
+TOO_LONG = b"The batch was not run. A line of a stream has at most 16384 bytes, unless it is a comment.\n"
 
 
 def explain_long_line(programs: Programs) -> Outcome:
-    """A line of a stream does not fit in memory. Its batch is refused, and the lines before and after it are answered. Without a line feed the line
-    is skipped."""
+    """A line of a stream would not fit in memory. A comment is one whatever its length. Any other line is too long: its batch is refused, and the
+    lines before and after it are answered. Without a line feed the line is skipped."""
     words: Command = [programs.store, "--stream", "--explain"]
     limits = Limits(memory=MEMORY)
     wrong = None
     for text, out, line in [(b"", b"", 1), (b"put a 1\ngo\nget a\ngo\n", b"new\nvalue 1\n", 5), (b"put a 1\ngo\nget a\n", b"new\n", 4)]:
-        ended = differs(run(words, text + LONG_LINE, limits), 0, out + b"value 1\n" * (line == 4))
-        lost = run(words, text + LONG_LINE + b"\ngo\nget a\ngo\n", limits)
+        last = b"value 1\n" * (line == 4)  # the answer to the batch in which the line is
         answer = b"value 1\n" if text else b"missing\n"
-        wrong = wrong or ended or differs(lost, 0, out + b"fault 6 NoMemory\n" + answer, UNREAD % line)
+        for long in (LONG_COMMENT, LONG_PUT_LINE):
+            wrong = wrong or differs(run(words, text + long, limits), 0, out + last)
+        commented = run(words, text + LONG_COMMENT + b"\ngo\nget a\ngo\n", limits)
+        wrong = wrong or differs(commented, 0, out + last + answer)
+        refused = run(words, text + LONG_PUT_LINE + b"\ngo\nget a\ngo\n", limits)
+        wrong = wrong or differs(refused, 0, out + b"line %d: line too long\n" % line + answer, TOO_LONG)
     return Outcome(wrong)
 
 
@@ -628,7 +632,7 @@ def cases(programs: Programs) -> list[Case]:
         Case("explains each refusal of a stream", explain_in_turn, (programs,)),
         Case("explains a closed output after a copy", explain_closed_output, (programs,)),
         Case("explains options without an effect", explain_idle_options, (programs,)),
-        Case("explains a line that can't be read", explain_long_line, (programs,)),
+        Case("explains a line that is too long", explain_long_line, (programs,)),
         Case("explains a copy to the store's own file", explain_own_copy, (programs,)),
         Case("chooses settings for a number of pairs", size_by_pairs, (programs,)),
         Case("refuses a number of pairs without effect", refuse_pairs, (programs,)),

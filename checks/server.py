@@ -720,7 +720,7 @@ def close_streams(program: Path) -> Outcome:
 
 def show_version(program: Path) -> Outcome:
     ran = subprocess.run([program, "--version"], stdin=subprocess.DEVNULL, capture_output=True, timeout=PATIENCE)
-    return Outcome(differing("--version", (ran.returncode, ran.stdout, ran.stderr), (0, b"bwserve 0.1.0\n", b"")))
+    return Outcome(differing("--version", (ran.returncode, ran.stdout, ran.stderr), (0, b"bwserve 0.2.0\n", b"")))
 
 
 def explain_start(program: Path) -> Outcome:
@@ -731,7 +731,7 @@ def explain_start(program: Path) -> Outcome:
         text.write_bytes(b"this is no store\n" * 100)
         rows: list[tuple[list[str], list[str]]] = [
             ([str(text), "--port", "0"], [str(text), "The file holds no store", "Check the path"]),
-            ([f"{folder}/none/store", "--port", "0"], [f"{folder}/none/store", "No such file", "has to exist"]),
+            ([f"{folder}/none/store", "--port", "0"], [f"{folder}/none/store", "No such file", "must exist"]),
             ([str(good), "--port", port], [f"127.0.0.1:{port}", "ddress already in use", "--port"]),
             ([str(good), "--port", "0", "--bind", "192.0.2.1"], ["192.0.2.1:0", "annot assign", "--bind"]),
             ([str(good), "--fan", "3"], [str(good), "The setting fan is out of range. It must be from 4 to 64."]),
@@ -748,7 +748,7 @@ def lock_file(program: Path) -> Outcome:
     """A second server on the same file ends at once."""
     with new_folder() as folder, serving(program, Path(folder) / "store"):
         ran = subprocess.run([program, f"{folder}/store", "--port", "0"], stdin=subprocess.DEVNULL, capture_output=True, timeout=PATIENCE)
-    return Outcome(None if ran.returncode == 1 and f"{folder}/store: Another program has locked the file.".encode() in ran.stderr else f"status {ran.returncode}, {ran.stderr!r}")
+    return Outcome(None if ran.returncode == 1 and f"{folder}/store: Wait until the program that has locked the file ends.".encode() in ran.stderr else f"status {ran.returncode}, {ran.stderr!r}")
 
 
 def cases(programs: Programs, failing: Path) -> list[Case]:

@@ -168,7 +168,7 @@ def lock_after_growth(program: Path) -> Outcome:
             put_batches(client)
             if not client.numbers()["log_growths"]:
                 return Outcome("the log did not grow")
-            return Outcome(wrong_start(program, path, (b"nother program",)))
+            return Outcome(wrong_start(program, path, (b"has locked the file",)))
 
 
 def overwrite_larger(program: Path) -> Outcome:
