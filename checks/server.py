@@ -734,7 +734,7 @@ def explain_start(program: Path) -> Outcome:
             ([f"{folder}/none/store", "--port", "0"], [f"{folder}/none/store", "No such file", "must exist"]),
             ([str(good), "--port", port], [f"127.0.0.1:{port}", "ddress already in use", "--port"]),
             ([str(good), "--port", "0", "--bind", "192.0.2.1"], ["192.0.2.1:0", "annot assign", "--bind"]),
-            ([str(good), "--fan", "3"], [str(good), "The setting fan is out of range. It must be from 4 to 64."]),
+            ([str(good), "--fan", "3"], [str(good), "The setting fan must be from 4 to 64."]),
             ([str(good), "--workers", "65"], [str(good), "1 to 64 workers"]),
         ]
         for words, parts in rows:
