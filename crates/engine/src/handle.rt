@@ -72,8 +72,9 @@ impl<D: Disk> Store<D> {
     /// Returns a handle of this store, whose calls use this runtime and this crew. For batches of a few commands the
     /// default crew, which is the calling thread alone, is fastest.
     ///
-    /// Fails only with `Fault::BadCrew`, if the crew is out of range. The store is returned with the fault. In a function that returns a `Fault`, `?` takes the fault and drops
-    /// the store. In a function with another error, such as `anyhow::Error`, write `.map_err(|e| e.0)?`.
+    /// Fails only with `Fault::BadCrew`, if the crew is out of range. The store is returned with the fault. In a
+    /// function that returns a `Fault`, `?` takes the fault and drops the store. In a function with another error, such
+    /// as `anyhow::Error`, write `.map_err(|e| e.0)?`.
     pub fn with<R: Threads + Sync>(
         self,
         rt: &R,

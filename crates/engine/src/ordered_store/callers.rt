@@ -68,8 +68,8 @@ pub fn put_then_get_in_memory<R: Threads + Sync, S: OrderedStore<CrashDisk<Globa
 
 /// Creates a store, executes the batch `first`, flushes, executes the batch `second`, and flushes again. The machine
 /// may crash after the second flush, or at any call of the disk in it, which then fails, as do all later calls: `crash`
-/// turns the disk into any disk that a crash may leave of it. Opens the store again from this disk. Returns whether the second flush succeeded, and the replies
-/// to the batch `gets`.
+/// turns the disk into any disk that a crash may leave of it. Opens the store again from this disk. Returns whether the
+/// second flush succeeded, and the replies to the batch `gets`.
 ///
 /// If the disk is honest, the replies are those of an ordered map on which both batches were executed, or, unless the
 /// second flush succeeded, `first` alone. Fails with the first fault of a call other than the second flush.
