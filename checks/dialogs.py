@@ -93,6 +93,19 @@ def refuse_long_line(programs: Programs) -> Outcome:
     return Outcome(differs(ran, 0, b"new\nline 4: line too long\nflushed 2\nrows 1\na 1\n"))
 
 
+def refuse_many_rows(programs: Programs) -> Outcome:
+    """With --max-rows, a scan with which its batch asks for more rows is a bad line. Orders that read rows are not bounded, nor are texts."""
+    puts, put, all_rows = b"put a 1\nput b 2\ngo\n", b"new\nnew\n", b"rows 2\na 1\nb 2\n"
+    batches = b"scan % * 4\nscan b * 6\nget a\ngo\nscan % * 5\nput c 3\nscan % * 6\nput d 4\ngo\n"
+    answers = all_rows + b"rows 1\nb 2\nvalue 1\nline 10: too many rows\n"
+    orders = b"scan % * 11\nflush\n.back % * 99\n.prefix % 99\nscan % * 4294967295\n"
+    ordered = b"line 13: too many rows\nflushed 2\nrows 2\nb 2\na 1\nrows 2\na 1\nb 2\nline 17: too many rows\n"
+    wrong = differs(run([programs.store, "--stream", "--max-rows=10"], puts + batches + orders), 0, put + answers + ordered)
+    unbounded = run([programs.store, "--stream", "--max-rows=0"], puts + 9 * b"scan % * 4294967295\n" + b"go\n")
+    wrong = wrong or differs(unbounded, 0, put + 9 * all_rows)
+    return Outcome(wrong or differs(run([programs.store, "--max-rows=1"], puts + b"scan % * 2\n"), 0, put + all_rows))
+
+
 def free_long_batch(programs: Programs) -> Outcome:
     """A batch that is never ended does not use more memory than 65,535 commands."""
     ran = run([programs.store, "--stream"], 1_000_000 * b"put a 1\n")
@@ -365,6 +378,7 @@ def cases(programs: Programs) -> list[Case]:
         *refusals,
         Case("a stream goes on after a full log", refuse_full, (programs,)),
         Case("a stream goes on after a line that would not fit in memory", refuse_long_line, (programs,)),
+        Case("a batch that asks for many rows", refuse_many_rows, (programs,)),
         Case("a batch without an end", free_long_batch, (programs,)),
         *dots,
         Case("the lines of a stream", ask_for_help, (programs,)),

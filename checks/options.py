@@ -233,6 +233,7 @@ def explain_streams(programs: Programs) -> Outcome:
 
 IDLE_CREATE = b"--create has no effect without --disk.\n"
 IDLE_SETTINGS = b"The settings have no effect: an existing store keeps its own.\n"
+IDLE_ROWS = b"--max-rows has no effect without --stream.\n"
 
 
 LONG_KEY = b"The batch that line %d ended was not run. The command in line %d has a key that is longer than max-key of this store.\n"
@@ -246,13 +247,14 @@ REFUSED_IN_TURN = [
     (b"get a\nget a\ngo\nget abc\ngo\n", LONG_KEY % (13, 12)),
     (b"put a\ngo\n", b"The batch was not run. --help lists the words of each command. In a word, %%20 is a space.\n"),
     (b"clean\n", b"line 16: The log is in one segment, so there is nothing to clean.\n"),
+    (b"scan a * 3\nscan a * 3\ngo\n", b"The batch was not run. The limits of its scans together are more than --max-rows allows.\n"),
 ]
 
 
 def explain_in_turn(programs: Programs) -> Outcome:
     """Each refusal of a stream has its own explanation, which is written before its answer."""
     with new_folder() as folder:
-        dialog, said = Dialog(programs.store, "--explain", "--max-key=2"), b""
+        dialog, said = Dialog(programs.store, "--explain", "--max-key=2", "--max-rows=5"), b""
         for lines, why in REFUSED_IN_TURN:
             lines, why = (text.replace(b"%s", folder.encode()).replace(b"%%", b"%") for text in (lines, why))
             dialog.send(lines)
@@ -282,7 +284,7 @@ def explain_closed_output(programs: Programs) -> Outcome:
 
 
 def explain_idle_options(programs: Programs) -> Outcome:
-    """--create without --disk, and settings beside an existing file, have no effect. Only --explain says so."""
+    """--create without --disk, settings beside an existing file, and --max-rows without --stream have no effect. Only --explain says so."""
     with new_folder() as folder:
         path, copy, text = Path(folder) / "store", Path(folder) / "copy", b"put a 1\nflush\n"
         on_disk, bad = ("--disk", str(path)), b"line 1: unknown command\n"
@@ -295,6 +297,8 @@ def explain_idle_options(programs: Programs) -> Outcome:
         wrong = wrong or differs(run([programs.store, "--explain", "--stream", "--fan=4", *on_disk], b"get a\n"), 0, b"value 1\n", IDLE_SETTINGS)
         wrong = wrong or differs(run([programs.store, "--explain", "--fan=4", *on_disk, "--copy-to", copy], b""), 0, b"")
         wrong = wrong or differs(run([programs.store, "--create", "--explain", "--pairs=9"], text), 0, b"new\nflushed 2\n")
+        wrong = wrong or differs(run([programs.store, "--explain", "--max-rows=1"], b"scan % * 9\n"), 0, b"rows 0\n", IDLE_ROWS)
+        wrong = wrong or differs(run([programs.store, "--explain", "--max-rows=0"], b"scan % * 9\n"), 0, b"rows 0\n")
         refused = run([programs.store, "--explain", "--create"], b"x\n")
         explained = b"Nothing was run. A line begins with a command that --help lists, or with #. Lines with a dot need --stream.\n"
         return Outcome(wrong or differs(refused, 3, b"", bad + explained + IDLE_CREATE))

@@ -220,6 +220,27 @@ def refuse_session(programs: Programs, library: Path, number: int) -> Outcome:
         return refuse_each([programs.store, *session.words, *on_file], library, 1, 1, SESSION_BUDGET, session.text, wrong_run, prepare)
 
 
+# The first two orders end batches that are skipped. An order reads keys, so that allocations for it can be refused.
+SKIPPED = b"frob\n.back a b 5\nget a\nfrob\n.prefix a 5\nget a\n.back a b 5\nget a\ngo\n"
+SKIPPED_LINES = [b"line 1: unknown command", b"rows 0", b"line 4: unknown command", b"rows 0", b"missing", b"rows 0", b"missing"]
+
+
+def wrong_skipped(ran: subprocess.CompletedProcess[bytes]) -> str | None:
+    """Each batch and each order has one line, also an order that ends a skipped batch. The refusal of an allocation is one of these lines."""
+    err, fault = ran.stderr.replace(REFUSED, b""), NO_MEMORY.strip()
+    if (ran.returncode, ran.stdout) == (4, b"") and err in (NO_MEMORY, DEVICE):
+        return None
+    lines = ran.stdout.splitlines()
+    others = [line for line in lines if line != fault]
+    expected = [line for line, found in zip(SKIPPED_LINES, lines) if found != fault]
+    is_right = (ran.returncode, err, len(lines)) == (0, b"", len(SKIPPED_LINES)) and others == expected and lines.count(fault) <= 1
+    return None if is_right else f"status {ran.returncode}, output {abbreviate(ran.stdout)}, errors {abbreviate(err)}"
+
+
+def refuse_skipped(programs: Programs, library: Path) -> Outcome:
+    return refuse_each([programs.store, "--stream"], library, 1, 1, SESSION_BUDGET, SKIPPED, wrong_skipped)
+
+
 def refuse_first(programs: Programs, library: Path) -> Outcome:
     for words in (["--frob"], ["--help"]):
         ran = run([programs.store, *words], TEXT, environment=refusing(library, 1))
@@ -234,7 +255,8 @@ def cases(programs: Programs, library: Path) -> list[Case]:
     of_tests = [case for crate in crates for case in cases_of(crate, programs.tests.get(crate), library)]
     names = [" ".join(["a session", session.name, *(word for word in session.words if word not in SMALL_STORE)]) for session in SESSIONS]
     of_sessions = [Case(name, refuse_session, (programs, library, number)) for number, name in enumerate(names)]
-    return [*of_tests, *of_sessions, Case("the words of the command line", refuse_first, (programs, library))]
+    skipped = Case("orders that end skipped batches", refuse_skipped, (programs, library))
+    return [*of_tests, *of_sessions, skipped, Case("the words of the command line", refuse_first, (programs, library))]
 
 
 def main() -> None:

@@ -43,6 +43,20 @@ TOO_LONG = b"line 1: line too long\n"
 TURNS, STEP = 1_000, 5  # alternating wipes and scans, and the pairs that each wipe removes
 
 
+MANY = 20_000  # pairs, and rows that a batch may ask for
+ROWS = ("--stream", f"--max-rows={MANY}", "--fan=64", "--chain=16")
+ALL_PAIRS = b"scan % * 4294967295\n"
+REFUSED_SCAN = b"line %d: too many rows\n" % (MANY + 2)
+
+
+def bounded_scans() -> bytes:
+    return puts(MANY) + 20 * (b"scan % * 10000\n" * 2 + b"go\n")
+
+
+def answers_to_bounded_scans() -> bytes:
+    return 40 * (b"rows 10000\n" + b"".join(b"%06d v\n" % number for number in range(10_000)))
+
+
 def puts(count: int) -> bytes:
     return b"".join(b"put %06d v\n" % number for number in range(count)) + b"go\n"
 
@@ -154,6 +168,8 @@ TEXTS = [
         (0, b"line 2: line too long\nrows 0\n", b""),
         STREAM,
     ),
+    HostileText("scans of all pairs in a bounded stream", lambda: puts(MANY) + ALL_PAIRS * MANY + b"go\n", (0, MANY * b"new\n" + REFUSED_SCAN, b""), ROWS, memory=FEW),
+    HostileText("batches of as many rows as are allowed", bounded_scans, (0, MANY * b"new\n" + answers_to_bounded_scans(), b""), ROWS, memory=FEW),
     HostileText("the same line in a text", lambda: b"put a 1\nput b " + LONG + b"\n", fault("3 ValueTooLong 1")),
     HostileText(
         "batches of one command",

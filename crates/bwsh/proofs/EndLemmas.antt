@@ -28,7 +28,7 @@ use Rattle.bwsh.specs.declared.session.SessionError.TheVariants.{Words, Bad, Dev
 use Rattle.bwsh.specs.declared.session.SessionError.TheVariants as errors
 use Rattle.bwsh.specs.BatchFile.{AreRead, IsReadError, first_bad, orders_in, parse_text}
 use Rattle.bwsh.specs.Ends.{HasBegun, HasBegunOn, IsAllDone, IsBad, IsDoneOn}
-use Rattle.bwsh.specs.Options.{Given, Request, AsksFor, AsksForText, AreRefused, IsRightKind, copy_of, is_refusal, mode_of}
+use Rattle.bwsh.specs.Options.{Given, Request, AsksFor, AsksForText, AreRefused, IsRightKind, bounds_of, copy_of, is_refusal, mode_of}
 use Rattle.bwsh.specs.Options.Asked.{options}
 use Rattle.bwsh.specs.Session.{Answers, AreLeft, AreReadOf, EndsBy, IsEndAfter, IsForWords, IsStart, IsStartBy, IsUncopied, IsUnopened, Prints, PrintsOneText, Reads, Runs, RunsAll, RunsFrom, RunsOn, RunsRead, RunsRequest, Start, answered, end_from, found_start, lines_from, map_kept, map_kept_from, new_start, orders_end, session_orders, start_for_copy, start_unless_bad, status_of_end, stopped_by, first_refusal, untidied, version_text}
 use Rattle.bwsh.proofs.CopiedLemmas.{End, IsLeft, OnOk-flushed, Prints-done, Prints-none, Prints-right, PrintsCopied-begun, PrintsCopied-early, PrintsCopied-front, PrintsCopied-left, PrintsCopied-made, PrintsCopied-other, PrintsCopied-plain}
@@ -163,11 +163,11 @@ none_is (Some path) memory = absurd (cc)
 
 module _ (request : Request) (settings : Settings) (st : Store) (file left : Bytes) (honest : Bool) (is_left : IsTrue honest → left ≡ file) (in_memory : request.disk ≡ None → IsTrue honest)
     (parsed : List Line) (old new : Option Bytes) where
-  RunsFrom-run : (done end : End) (held : Pairs Bytes) → RunsOn request.mode honest settings st left (orders_in request.mode.stream request.mode.stat parsed) old new done held
+  RunsFrom-run : (done end : End) (held : Pairs Bytes) → RunsOn request.mode honest settings st left (orders_in (bounds_of request.mode) request.mode.stat parsed) old new done held
       → IsLeft (copy_of request) held done end → RunsFrom request (Ok (settings, (st, file))) parsed old new end
   unfolding RunsFrom Runs
   RunsFrom-run done end held (shown, (tidies, failing, cleans, are), runs, leaves) follows =
-      let ran : List Order = orders_in request.mode.stream request.mode.stat parsed in
+      let ran : List Order = orders_in (bounds_of request.mode) request.mode.stat parsed in
       let on : Bool = request.mode.stream in
       let lines : List Bytes = answered on settings st shown (contents st.tree) ran in
       let right : End = orders_end on settings st shown ran in
@@ -211,7 +211,7 @@ module _ (request : Request) (parsed : List Line) (old : Option Bytes) where
       )
   RunsFrom-device (Ok p) =
       RunsFrom-run request p.0 p.1.0 p.1.1 p.1.1 true (λ h. refl) (λ memory. refl) parsed old old (Err Device) (Err Device) []
-      (RunsOn-cut request.mode true p.0 p.1.0 p.1.1 (orders_in request.mode.stream request.mode.stat parsed) old Device (inr refl) []) refl
+      (RunsOn-cut request.mode true p.0 p.1.0 p.1.1 (orders_in (bounds_of request.mode) request.mode.stat parsed) old Device (inr refl) []) refl
 
 module _ (request : Request) (known : Option Bytes) where
   -- from a right start, whatever the lines
@@ -254,16 +254,16 @@ module _ (request : Request) (known : Option Bytes) where
     -- there is one: the orders of some lines are run on it, and then there is the copy of what they leave, or there is none
     module _ (settings : Settings) (st : Store) (file left : Bytes) (honest : Bool) (start : Start) (is : IsStartBy request.settings request.disk request.create None start)
         (start_is : start ≡ Ok (settings, (st, file))) (seen_is : IsTrue honest → left ≡ file) (in_memory : request.disk ≡ None → IsTrue honest) (mode : Mode) (mode_is : mode ≡ request.mode) where
-      pub RunsRead-run : (parsed : List Line) → IfSome known (λ text. AreRead (parse_text mode.stream text) parsed) → (old new : Option Bytes) (done end : End) (after : Store)
-          → RunsAll mode honest settings st left (orders_in mode.stream mode.stat parsed) old new done after → IsLeft (copy_of request) (contents after.tree) done end
+      pub RunsRead-run : (parsed : List Line) → IfSome known (λ text. AreRead mode.stream (parse_text mode.stream text) parsed) → (old new : Option Bytes) (done end : End) (after : Store)
+          → RunsAll mode honest settings st left (orders_in (bounds_of mode) mode.stat parsed) old new done after → IsLeft (copy_of request) (contents after.tree) done end
           → RunsRead request known old new end
       unfolding RunsRequest
       RunsRead-run parsed read old new done end after runs follows =
-          let on_request : RunsOn request.mode honest settings st left (orders_in request.mode.stream request.mode.stat parsed) old new done (contents after.tree) =
-          subst (λ (m : Mode). RunsOn m honest settings st left (orders_in m.stream m.stat parsed) old new done (contents after.tree)) mode_is runs in
+          let on_request : RunsOn request.mode honest settings st left (orders_in (bounds_of request.mode) request.mode.stat parsed) old new done (contents after.tree) =
+          subst (λ (m : Mode). RunsOn m honest settings st left (orders_in (bounds_of m) m.stat parsed) old new done (contents after.tree)) mode_is runs in
           inl (
             parsed,
-            subst (λ (m : Mode). IfSome known (λ text. AreRead (parse_text m.stream text) parsed)) mode_is read,
+            subst (λ (m : Mode). IfSome known (λ text. AreRead m.stream (parse_text m.stream text) parsed)) mode_is read,
             (
               start,
               opened_start start is,
@@ -320,7 +320,7 @@ module _ (request : Request) (known old mid new : Option Bytes) (none : Appends 
   Answers-text text plain is_known good (inl (parsed, read, runs)) =
       (text, is_known, inr (λ s. good, (parsed, by request.mode.stream plain read, RunsRequest-begun request parsed old mid new none end runs)))
     where
-      by : (b : Bool) → b ≡ false → AreRead (parse_text b text) parsed → AreReadOf b known text parsed
+      by : (b : Bool) → b ≡ false → AreRead b (parse_text b text) parsed → AreReadOf b known text parsed
       by true is p = cc
       by false is p = p
 
@@ -334,8 +334,8 @@ module _ (request : Request) (known old mid new : Option Bytes) (none : Appends 
       no_text : request.mode.stream ≡ false → first_bad 1 (parse_text false (unwrap_or known [])) ≡ None
       no_text plain = let no : true ≡ false = sym streams ∙ plain in cc
 
-      by : (b : Bool) → b ≡ true → IfSome left (λ text. AreRead (parse_text b text) parsed) → AreReadOf b known (unwrap_or known []) parsed
-      by true is p = IfSome-kept known left (λ (text : Bytes). AreRead (parse_text true text) parsed) kept p
+      by : (b : Bool) → b ≡ true → IfSome left (λ text. AreRead b (parse_text b text) parsed) → AreReadOf b known (unwrap_or known []) parsed
+      by true is p = IfSome-kept known left (λ (text : Bytes). AreRead true (parse_text true text) parsed) kept p
       by false is p = cc
 
   -- of a stream whose lines are read by way of a buffer, which holds nothing first
@@ -404,14 +404,14 @@ no_end false (Ok p) shown orders early other e = no_stop (first_refusal p.0 p.1.
 module _ (request : Request) (known old new : Option Bytes) where
   -- what was read of the known text
   by_known : (text : Bytes) (parsed : List Line) (P : Bytes → Type 0) → IfSome known (λ bytes. text ≡ bytes) → AreReadOf request.mode.stream known text parsed
-      → ((bytes : Bytes) → text ≡ bytes → AreRead (parse_text request.mode.stream bytes) parsed → P bytes) → IfSome known P
+      → ((bytes : Bytes) → text ≡ bytes → AreRead request.mode.stream (parse_text request.mode.stream bytes) parsed → P bytes) → IfSome known P
   by_known text parsed P is_known read f = by request.mode.stream known is_known read f
     where
-      by : (b : Bool) (k : Option Bytes) → IfSome k (λ bytes. text ≡ bytes) → AreReadOf b k text parsed → ((bytes : Bytes) → text ≡ bytes → AreRead (parse_text b bytes) parsed → P bytes) → IfSome k P
+      by : (b : Bool) (k : Option Bytes) → IfSome k (λ bytes. text ≡ bytes) → AreReadOf b k text parsed → ((bytes : Bytes) → text ≡ bytes → AreRead b (parse_text b bytes) parsed → P bytes) → IfSome k P
       by true None is r g = tt
       by false None is r g = tt
       by true (Some bytes) is r g = g bytes is r
-      by false (Some bytes) is r g = g bytes is (subst (λ (t : Bytes). AreRead (parse_text false t) parsed) is r)
+      by false (Some bytes) is r g = g bytes is (subst (λ (t : Bytes). AreRead false (parse_text false t) parsed) is r)
 
   request_done : (done : Unit {0}) → Answers request known old new (Ok done) → IfSome known (IsDoneOn request old new)
   unfolding Answers RunsRequest RunsFrom

@@ -240,7 +240,7 @@ flag_read name is given rows result all is_rows set unset = go (find (λ g. byte
 -- an option that takes a number and was not given has a default
 default_number : (name : Text) → takes_number name ≡ true → option_and_then (λ (r : Row). r.source) (find (at name) (defaults_in built_rules)) ≡ Some DefaultValue
 default_number = any_of (λ name. option_and_then (λ (r : Row). r.source) (find (at name) (defaults_in built_rules)) ≡ Some DefaultValue) number_names
-    (refl, (refl, (refl, (refl, (refl, (refl, (refl, (refl, (refl, (refl, (refl, tt)))))))))))
+    (refl, (refl, (refl, (refl, (refl, (refl, (refl, (refl, (refl, (refl, (refl, (refl, tt))))))))))))
 
 -- where the value of an option comes from that takes a number
 abbrev pub source_by : Bool → ValueSource
@@ -317,10 +317,10 @@ crew_with a b = record { workers = a; grain = b }
 pub crews_equal : {a b c d : ℕ} → a ≡ c → b ≡ d → crew_with a b ≡ crew_with c d
 crews_equal a b = rw (a, b) refl
 
-abbrev ways_with : Bool → Bool → Bool → Bool → Bool → ℕ → ℕ → Bool → Mode
-ways_with a b c d e f g h = record { version = a; explain = b; stat = c; clean_when_full = d; stream = e; tidy = f; wait = g; progress = h }
+abbrev ways_with : Bool → Bool → Bool → Bool → Bool → ℕ → ℕ → ℕ → Bool → Mode
+ways_with a b c d e f g r h = record { version = a; explain = b; stat = c; clean_when_full = d; stream = e; tidy = f; wait = g; max_rows = r; progress = h }
 
 -- so are modes
-pub ways_equal : {a b c d e h i j k l m p : Bool} {f g n o : ℕ} → a ≡ i → b ≡ j → c ≡ k → d ≡ l → e ≡ m → f ≡ n → g ≡ o → h ≡ p
-    → ways_with a b c d e f g h ≡ ways_with i j k l m n o p
-ways_equal a b c d e f g h = rw (a, b, c, d, e, f, g, h) refl
+pub ways_equal : {a b c d e h i j k l m p : Bool} {f g r n o s : ℕ} → a ≡ i → b ≡ j → c ≡ k → d ≡ l → e ≡ m → f ≡ n → g ≡ o → r ≡ s → h ≡ p
+    → ways_with a b c d e f g r h ≡ ways_with i j k l m n o s p
+ways_equal a b c d e f g r h = rw (a, b, c, d, e, f, g, r, h) refl

@@ -15,6 +15,7 @@ mod FoundLemmas
 mod Literals
 mod LongLemmas
 mod LoopLemmas
+mod LostLemmas
 mod MergedLemmas
 mod NumberLemmas
 mod OrderLemmas

@@ -215,7 +215,7 @@ some_options = refl
 
 -- a session with default values is the same as one without options
 abbrev no_ways : Mode
-no_ways = record { version = false; explain = false; stat = false; clean_when_full = false; stream = false; tidy = 0; wait = 0; progress = false }
+no_ways = record { version = false; explain = false; stat = false; clean_when_full = false; stream = false; tidy = 0; wait = 0; max_rows = 0; progress = false }
 
 request_options : let given : Given = (codes "create", codes "true") ∷ (codes "disk", codes "a b") ∷ (codes "fan", codes "8") ∷ [] in
     request_by given (settings_of given)
@@ -250,8 +250,8 @@ request_version = refl
 request_to_explain : mode_of ((codes "explain", codes "true") ∷ []) ≡ record no_ways { explain = true }
 request_to_explain = refl
 
-request_of_tidying : mode_of ((codes "tidy", codes "007") ∷ (codes "wait", codes "30") ∷ (codes "progress", codes "true") ∷ [])
-    ≡ record no_ways { tidy = 7; wait = 30; progress = true }
+request_of_tidying : mode_of ((codes "tidy", codes "007") ∷ (codes "wait", codes "30") ∷ (codes "max-rows", codes "9") ∷ (codes "progress", codes "true") ∷ [])
+    ≡ record no_ways { tidy = 7; wait = 30; max_rows = 9; progress = true }
 request_of_tidying = refl
 
 -- each option that takes a path has its own path

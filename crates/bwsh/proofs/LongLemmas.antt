@@ -10,7 +10,7 @@ use Rattle.std.proofs.KnownBytes.{Consumes-nil, Consumes-trans}
 use Rattle.std.proofs.Transfers.{StopsAt-append}
 use Rattle.bstr.specs.Text.{last_byte_of, no_cr, without_terminator}
 use Rattle.bwsh.specs.declared.line.Line.{Line}
-use Rattle.bwsh.specs.declared.line.Line.TheVariants as line_variants
+use Rattle.bwsh.specs.BatchFile.{IsReadAs}
 use Rattle.bwsh.specs.Line.{most_in_line, parse_line, parse_long, parse_words}
 use Rattle.bwsh.specs.Source.{IsFront, IsLong, IsParsed, IsPushed, is_line}
 use Rattle.bwsh.specs.Words.{words_of}
@@ -67,20 +67,21 @@ IsEnded stream known left text line =
     IfSome known (λ xs. IsParsed stream (take_through 10 (text ++ xs)) line × (left ≡ Some (drop_through 10 (text ++ xs))))
 
 pub long_parsed : (stream : Bool) → stream ≡ true → (known left : Option (List ℕ)) (text inner : List ℕ) (last : Option ℕ) (b : Bool) (line : Line) → IsSkippedWhole known left text last
-    → b ≡ is_line stream last → b ≡ true → IsLong text → inner ≡ without_terminator text → (line ≡ parse_line true inner) ⊎ (line ≡ line_variants.Lost) → IsEnded stream known left text (Some line)
+    → b ≡ is_line stream last → b ≡ true → IsLong text → inner ≡ without_terminator text → IsReadAs true (parse_line true inner) line → IsEnded stream known left text (Some line)
 long_parsed stream streams None left text inner last b line whole is holds long ends parsed = tt
 long_parsed stream streams (Some xs) left text inner last b line (last_is, left_is) is holds long ends parsed =
-    ((sym (is ∙ ap (λ (o : Option ℕ). is_line stream o) last_is) ∙ holds, either parsed), left_is)
+    ((sym (is ∙ ap (λ (o : Option ℕ). is_line stream o) last_is) ∙ holds, whole), left_is)
   where
     all : take_through 10 (text ++ xs) ≡ text ++ take_through 10 xs
     all = take_through-append 10 text xs (none_inside text long.0 long.1)
 
-    either : (line ≡ parse_line true inner) ⊎ (line ≡ line_variants.Lost) → (line ≡ parse_line stream (without_terminator (take_through 10 (text ++ xs)))) ⊎ (line ≡ line_variants.Lost)
-    either (inl e) =
-        inl (e ∙ ap (parse_line true) ends ∙ front_decides text (take_through 10 xs) long.2
-        ∙ ap (λ (l : List ℕ). parse_line true (without_terminator l)) (sym all)
-        ∙ ap (λ (s : Bool). parse_line s (without_terminator (take_through 10 (text ++ xs)))) (sym streams))
-    either (inr e) = inr e
+    same : parse_line true inner ≡ parse_line true (without_terminator (take_through 10 (text ++ xs)))
+    same = ap (parse_line true) ends ∙ front_decides text (take_through 10 xs) long.2 ∙ ap (λ (l : List ℕ). parse_line true (without_terminator l)) (sym all)
+
+    whole : IsReadAs stream (parse_line stream (without_terminator (take_through 10 (text ++ xs)))) line
+    whole =
+        subst (λ (s : Bool). IsReadAs s (parse_line s (without_terminator (take_through 10 (text ++ xs)))) line) (sym streams)
+        (subst (λ (said : Line). IsReadAs true said line) same parsed)
 
 pub long_unparsed : (stream : Bool) (known left : Option (List ℕ)) (text : List ℕ) (last : Option ℕ) (b : Bool) → IsSkippedWhole known left text last
     → b ≡ is_line stream last → b ≡ false → IsEnded stream known left text None

@@ -8,6 +8,7 @@ use Rattle.mapping.specs.Levels.{contents}
 use Rattle.mapping.specs.Tree.{Store}
 use Rattle.bwsh.specs.declared.line.Line.{Line}
 use Rattle.bwsh.specs.declared.options.asked.Mode.{Mode}
+use Rattle.bwsh.specs.declared.order.Bounds.{Bounds}
 use Rattle.bwsh.specs.declared.order.Order.{Order}
 use Rattle.bwsh.specs.declared.order.Order.TheVariants.{Numbers}
 use Rattle.bwsh.specs.declared.session.SessionError.{SessionError}
@@ -15,6 +16,7 @@ use Rattle.bwsh.specs.declared.session.SessionError.TheVariants.{Device}
 use Rattle.bwsh.specs.declared.source.Source.{Source}
 use Rattle.bwsh.specs.BatchFile.{AreRead, asked, orders_in, parse_text, with_numbers}
 use Rattle.bwsh.specs.BatchFile.Pending.{begun}
+use Rattle.bwsh.specs.Options.{bounds_of}
 use Rattle.bwsh.specs.Session.{RunsAsk, RunsOn}
 use Rattle.bwsh.specs.Source.{IsToCome, to_come}
 use Rattle.bwsh.proofs.CopiedLemmas.{End}
@@ -68,17 +70,17 @@ module _ (mode : Mode) (honest : Bool) (settings : Settings) (first st : Store) 
 
 -- ---- the orders that can come from a source
 
-read_all : (lines : List Line) → AreRead lines lines
-read_all [] = tt
-read_all (line ∷ rest) = (inl refl, read_all rest)
+read_all : (stream : Bool) (lines : List Line) → AreRead stream lines lines
+read_all stream [] = tt
+read_all stream (line ∷ rest) = (inl refl, read_all stream rest)
 
 -- some lines can be read of the known input
-pub some_read : (stream : Bool) (known : Option Bytes) → (parsed : List Line) × IfSome known (λ text. AreRead (parse_text stream text) parsed)
+pub some_read : (stream : Bool) (known : Option Bytes) → (parsed : List Line) × IfSome known (λ text. AreRead stream (parse_text stream text) parsed)
 some_read stream None = ([], tt)
-some_read stream (Some text) = (parse_text stream text, read_all (parse_text stream text))
+some_read stream (Some text) = (parse_text stream text, read_all stream (parse_text stream text))
 
 pub some_to_come : {I : Type 0} (known : I → Option Bytes) (s : Source I) → (orders : List Order) × IsToCome known s orders
-some_to_come known s = let (parsed, read) = some_read s.is_stream (known s.input) in (to_come s parsed, (parsed, read, refl))
+some_to_come known s = let (parsed, read) = some_read s.bounds.is_stream (known s.input) in (to_come s parsed, (parsed, read, refl))
 
 -- the last order is the one to print the numbers, if it is asked for
 numbered : (stat : Bool) (orders : List Order) → orders ++ option_to_list (then_some stat Numbers) ≡ with_numbers stat orders
@@ -86,12 +88,12 @@ numbered true orders = refl
 numbered false orders = append-nil orders
 
 -- the orders that can come from a new source are those of a session with some lines that can be read of its input
-pub come_new : {I : Type 0} (known : I → Option Bytes) (s : Source I) (input : I) (mode : Mode) (last : Option Order) → s.input ≡ input → s.is_stream ≡ mode.stream → last ≡ then_some mode.stat Numbers
-    → ((parsed : List Line) → to_come s parsed ≡ asked mode.stream 1 (begun []) parsed ++ option_to_list last) → (orders : List Order) → IsToCome known s orders
-    → (parsed : List Line) × IfSome (known input) (λ text. AreRead (parse_text mode.stream text) parsed) × (orders ≡ orders_in mode.stream mode.stat parsed)
-come_new {I} known s input mode last input_is stream_is last_is come orders (parsed, read, is) = (
+pub come_new : {I : Type 0} (known : I → Option Bytes) (s : Source I) (input : I) (mode : Mode) (last : Option Order) → s.input ≡ input → s.bounds ≡ bounds_of mode → last ≡ then_some mode.stat Numbers
+    → ((parsed : List Line) → to_come s parsed ≡ asked (bounds_of mode) 1 (begun []) parsed ++ option_to_list last) → (orders : List Order) → IsToCome known s orders
+    → (parsed : List Line) × IfSome (known input) (λ text. AreRead mode.stream (parse_text mode.stream text) parsed) × (orders ≡ orders_in (bounds_of mode) mode.stat parsed)
+come_new {I} known s input mode last input_is bounds_is last_is come orders (parsed, read, is) = (
   parsed,
-  subst (λ (i : I). IfSome (known i) (λ text. AreRead (parse_text mode.stream text) parsed)) input_is
-      (subst (λ (b : Bool). IfSome (known s.input) (λ text. AreRead (parse_text b text) parsed)) stream_is read),
-  is ∙ come parsed ∙ ap (λ (o : Option Order). asked mode.stream 1 (begun []) parsed ++ option_to_list o) last_is ∙ numbered mode.stat (asked mode.stream 1 (begun []) parsed),
+  subst (λ (i : I). IfSome (known i) (λ text. AreRead mode.stream (parse_text mode.stream text) parsed)) input_is
+      (subst (λ (b : Bounds). IfSome (known s.input) (λ text. AreRead b.is_stream (parse_text b.is_stream text) parsed)) bounds_is read),
+  is ∙ come parsed ∙ ap (λ (o : Option Order). asked (bounds_of mode) 1 (begun []) parsed ++ option_to_list o) last_is ∙ numbered mode.stat (asked (bounds_of mode) 1 (begun []) parsed),
 )

@@ -1,19 +1,21 @@
 -- Lemmas on lines and their orders.
-use Rattle.std.proofs.Common.{◌≡◌, ◌+◌, ◌||◌, ◌&&◌, ◌<◌, ◌⊎◌, ℕ, Bool, true, false, cond, ltb, length, not, Option, Some, None, Result, Ok, Err, IfErr, IsErrAnd, arith, List, [], ◌∷◌, ◌++◌, map, refl, sym, ap, ◌∙◌, append_assoc, append-nil, length-append, inl, inr, subst}
+use Rattle.std.proofs.Common.{◌≡◌, ◌+◌, ◌||◌, ◌&&◌, ◌==◌, nat_lt, ◌<◌, ◌⊎◌, ℕ, Bool, true, false, cond, ltb, length, not, Option, Some, None, Result, Ok, Err, IfErr, IsErrAnd, arith, List, [], ◌∷◌, ◌++◌, map, refl, sym, ap, ◌∙◌, append_assoc, append-nil, length-append, inl, inr, subst}
 use Rattle.std.specs.List.{AllByRecursion, flat_map, list_all, list_any}
 use Rattle.std.specs.declared.alloc.Global.{Global}
 use Rattle.std.proofs.lemmas.Bool.{and_parts, lt-ltb, ltb-true}
 use Rattle.keys.specs.declared.command.Command.{Command}
 use Rattle.keys.specs.Bytes.{Bytes}
+use Rattle.engine.specs.Tokens.{most_rows, row_limit}
 use Rattle.bwsh.specs.declared.line.Line.{Line}
 use Rattle.bwsh.specs.declared.line.Line.TheVariants.{Blank, Go, Bad}
 use Rattle.bwsh.specs.declared.line.Line.TheVariants as line_variants
 use Rattle.bwsh.specs.declared.line.Why.{Why}
+use Rattle.bwsh.specs.declared.order.Bounds.{Bounds}
 use Rattle.bwsh.specs.declared.order.Order.{Order}
 use Rattle.bwsh.specs.declared.order.Order.TheVariants.{Batch}
 use Rattle.bwsh.specs.declared.session.SessionError.{SessionError}
 use Rattle.bwsh.specs.declared.session.SessionError.TheVariants as errors
-use Rattle.bwsh.specs.BatchFile.{IsBatch, IsForBatches, IsReadError, IsWithin, asked, batch_lines, commands_of, commands_of_lines, first_bad, is_short, is_short_order, is_too_long, last_order, line_writes, or_too_long, orders_of, writes}
+use Rattle.bwsh.specs.BatchFile.{IsBatch, IsForBatches, IsReadError, IsWithin, are_within_bounds, asked, batch_lines, commands_of, commands_of_lines, first_bad, is_over, is_within_bounds, last_order, line_writes, orders_of, over_order, writes}
 use Rattle.bwsh.specs.BatchFile.Pending.{begun, skipped}
 
 -- ---- commands
@@ -154,56 +156,96 @@ handed_on (Err f) e P h p = subst P (sym h) p
 
 -- ---- a text is a stream that was read to its end
 
-too_long-more : (stream : Bool) (cs : List (Command Global)) (c : Command Global) → is_too_long stream cs ≡ true → is_too_long stream (cs ++ c ∷ []) ≡ true
-too_long-more false cs c long = long
-too_long-more true cs c long =
-    let many : 65535 < length cs = ltb-true 65535 (length cs) long in
-    lt-ltb 65535 (length (cs ++ c ∷ [])) (omega (arith, length-append cs (c ∷ [])))
+most_rows-push : (cs : List (Command Global)) (c : Command Global) → most_rows (cs ++ c ∷ []) ≡ most_rows cs + row_limit c
+most_rows-push [] c = omega arith
+most_rows-push (d ∷ cs) c = let more = most_rows-push cs c in omega (arith, more)
 
-none_too_long : (stream : Bool) → is_too_long stream [] ≡ false
-none_too_long true = refl
-none_too_long false = refl
+or_true : (b : Bool) → (b || true) ≡ true
+or_true true = refl
+or_true false = refl
 
-not_short : (b rest : Bool) → b ≡ true → (not b && rest) ≡ false
-not_short true rest e = refl
-not_short false rest e = absurd (cc)
+-- a batch that is over a bound stays over it with one more command
+over-more : (bounds : Bounds) (cs : List (Command Global)) (c : Command Global) → is_over bounds cs ≡ true → is_over bounds (cs ++ c ∷ []) ≡ true
+over-more bounds cs c over =
+    by bounds.is_stream (bounds.max_rows == 0) (nat_lt bounds.max_rows (most_rows cs)) (nat_lt bounds.max_rows (most_rows more)) (nat_lt 65535 (length cs)) (nat_lt 65535 (length more)) rows_more
+    length_more over
+  where
+    more : List (Command Global)
+    more = cs ++ c ∷ []
 
--- a batch that is too long stays too long, and is one of the orders
-long_last : (stream : Bool) (cs : List (Command Global)) (orders : List Order) → is_too_long stream cs ≡ true → is_short stream (last_order cs ++ orders) ≡ false
-long_last stream [] orders long = absurd (let none = none_too_long stream in cc)
-long_last stream (c ∷ cs) orders long = not_short (is_too_long stream (c ∷ cs)) (list_all (is_short_order stream) orders) long
+    rows_more : nat_lt bounds.max_rows (most_rows cs) ≡ true → nat_lt bounds.max_rows (most_rows more) ≡ true
+    rows_more beyond =
+        let many : bounds.max_rows < most_rows cs = ltb-true bounds.max_rows (most_rows cs) beyond in
+        lt-ltb bounds.max_rows (most_rows more) (omega (arith, many, most_rows-push cs c))
 
-long_ordered : (stream : Bool) (cs : List (Command Global)) (parsed : List Line) → is_too_long stream cs ≡ true → is_short stream (orders_of cs parsed) ≡ false
-long_ordered stream cs [] long = ap (is_short stream) (sym (append-nil (last_order cs))) ∙ long_last stream cs [] long
-long_ordered stream cs (line_variants.Command command ∷ rest) long = long_ordered stream (cs ++ command ∷ []) rest (too_long-more stream cs command long)
-long_ordered stream cs (Go ∷ rest) long = not_short (is_too_long stream cs) (list_all (is_short_order stream) (orders_of [] rest)) long
-long_ordered stream cs (line_variants.Order order ∷ rest) long = long_last stream cs (order ∷ orders_of [] rest) long
-long_ordered stream cs (Blank ∷ rest) long = long_ordered stream cs rest long
-long_ordered stream cs (Bad why ∷ rest) long = long_ordered stream cs rest long
-long_ordered stream cs (line_variants.Lost ∷ rest) long = long_ordered stream cs rest long
+    length_more : nat_lt 65535 (length cs) ≡ true → nat_lt 65535 (length more) ≡ true
+    length_more beyond =
+        let many : 65535 < length cs = ltb-true 65535 (length cs) beyond in
+        lt-ltb 65535 (length more) (omega (arith, many, length-append cs (c ∷ [])))
 
-short_if : (b : Bool) (stream : Bool) (cs : List (Command Global)) (parsed : List Line) → is_too_long stream cs ≡ b → is_short stream (orders_of cs parsed) ≡ true → b ≡ false
-short_if true stream cs parsed is short = absurd (let long = long_ordered stream cs parsed is in cc)
-short_if false stream cs parsed is short = refl
+    by : (stream none rows rows' long long' : Bool) → (rows ≡ true → rows' ≡ true) → (long ≡ true → long' ≡ true) → ((stream && not none && rows) || (stream && long)) ≡ true
+        → ((stream && not none && rows') || (stream && long')) ≡ true
+    by false none rows rows' long long' f g e = absurd (cc)
+    by true false true rows' long long' f g e = ap (λ (b : Bool). b || long') (f refl)
+    by true false false rows' true long' f g e = ap (λ (b : Bool). rows' || b) (g refl) ∙ or_true rows'
+    by true false false rows' false long' f g e = absurd (cc)
+    by true true rows rows' true long' f g e = g refl
+    by true true rows rows' false long' f g e = absurd (cc)
 
-short_last : (stream : Bool) (cs : List (Command Global)) (order : Order) (orders : List Order) → is_short stream (last_order cs ++ order ∷ orders) ≡ true → is_short stream orders ≡ true
-short_last stream [] order orders short = (and_parts (is_short_order stream order) (is_short stream orders) short).1
-short_last stream (c ∷ cs) order orders short =
-    (and_parts (is_short_order stream order) (is_short stream orders) (and_parts (is_short_order stream (Batch (c ∷ cs))) (is_short stream (order ∷ orders)) short).1).1
+none_over : (bounds : Bounds) → is_over bounds [] ≡ false
+none_over bounds = by bounds.is_stream (bounds.max_rows == 0) (nat_lt bounds.max_rows 0) below_none
+  where
+    below_none : nat_lt bounds.max_rows 0 ≡ true → ⊥
+    below_none hit = let below : bounds.max_rows < 0 = ltb-true bounds.max_rows 0 hit in omega (arith, below)
 
--- without a bad or lost line, and without a batch that is too long, the orders are those of the text
-pub asked-orders_of : (stream : Bool) (n : ℕ) (cs : List (Command Global)) (parsed : List Line) → IsWithin parsed → is_short stream (orders_of cs parsed) ≡ true
-    → asked stream n (begun cs) parsed ≡ orders_of cs parsed
-asked-orders_of stream n cs [] within short = refl
-asked-orders_of stream n cs (line_variants.Command command ∷ rest) within short =
+    by : (stream none rows : Bool) → (rows ≡ true → ⊥) → ((stream && not none && rows) || (stream && false)) ≡ false
+    by true true rows f = refl
+    by true false false f = refl
+    by true false true f = absurd (f refl)
+    by false none rows f = refl
+
+not_within : (b rest : Bool) → b ≡ true → (not b && rest) ≡ false
+not_within true rest e = refl
+not_within false rest e = absurd (cc)
+
+-- such a batch is one of the orders
+over_last : (bounds : Bounds) (cs : List (Command Global)) (orders : List Order) → is_over bounds cs ≡ true → are_within_bounds bounds (last_order cs ++ orders) ≡ false
+over_last bounds [] orders over = absurd (let none = none_over bounds in cc)
+over_last bounds (c ∷ cs) orders over = not_within (is_over bounds (c ∷ cs)) (list_all (is_within_bounds bounds) orders) over
+
+over_ordered : (bounds : Bounds) (cs : List (Command Global)) (parsed : List Line) → is_over bounds cs ≡ true → are_within_bounds bounds (orders_of cs parsed) ≡ false
+over_ordered bounds cs [] over = ap (are_within_bounds bounds) (sym (append-nil (last_order cs))) ∙ over_last bounds cs [] over
+over_ordered bounds cs (line_variants.Command command ∷ rest) over = over_ordered bounds (cs ++ command ∷ []) rest (over-more bounds cs command over)
+over_ordered bounds cs (Go ∷ rest) over = not_within (is_over bounds cs) (list_all (is_within_bounds bounds) (orders_of [] rest)) over
+over_ordered bounds cs (line_variants.Order order ∷ rest) over = over_last bounds cs (order ∷ orders_of [] rest) over
+over_ordered bounds cs (Blank ∷ rest) over = over_ordered bounds cs rest over
+over_ordered bounds cs (Bad why ∷ rest) over = over_ordered bounds cs rest over
+over_ordered bounds cs (line_variants.Lost ∷ rest) over = over_ordered bounds cs rest over
+
+within_if : (b : Bool) (bounds : Bounds) (cs : List (Command Global)) (parsed : List Line) → is_over bounds cs ≡ b → are_within_bounds bounds (orders_of cs parsed) ≡ true → b ≡ false
+within_if true bounds cs parsed is within = absurd (let over = over_ordered bounds cs parsed is in cc)
+within_if false bounds cs parsed is within = refl
+
+within_last : (bounds : Bounds) (cs : List (Command Global)) (order : Order) (orders : List Order) → are_within_bounds bounds (last_order cs ++ order ∷ orders) ≡ true
+    → are_within_bounds bounds orders ≡ true
+within_last bounds [] order orders within = (and_parts (is_within_bounds bounds order) (are_within_bounds bounds orders) within).1
+within_last bounds (c ∷ cs) order orders within =
+    (and_parts (is_within_bounds bounds order) (are_within_bounds bounds orders)
+    (and_parts (is_within_bounds bounds (Batch (c ∷ cs))) (are_within_bounds bounds (order ∷ orders)) within).1).1
+
+-- without a bad or lost line, and without a batch that is over a bound, the orders are those of the text
+pub asked-orders_of : (bounds : Bounds) (n : ℕ) (cs : List (Command Global)) (parsed : List Line) → IsWithin parsed → are_within_bounds bounds (orders_of cs parsed) ≡ true
+    → asked bounds n (begun cs) parsed ≡ orders_of cs parsed
+asked-orders_of bounds n cs [] good within = refl
+asked-orders_of bounds n cs (line_variants.Command command ∷ rest) good within =
     let more = cs ++ command ∷ [] in
-    ap (λ (b : Bool). cond b (Batch more ∷ asked stream (n + 1) skipped rest) (asked stream (n + 1) (begun more) rest)) (short_if (is_too_long stream more) stream more rest refl short)
-    ∙ asked-orders_of stream (n + 1) more rest within short
-asked-orders_of stream n cs (Go ∷ rest) within short =
+    ap (λ (b : Bool). cond b (over_order bounds n more ∷ asked bounds (n + 1) skipped rest) (asked bounds (n + 1) (begun more) rest)) (within_if (is_over bounds more) bounds more rest refl within)
+    ∙ asked-orders_of bounds (n + 1) more rest good within
+asked-orders_of bounds n cs (Go ∷ rest) good within =
     ap (λ (os : List Order). Batch cs ∷ os)
-    (asked-orders_of stream (n + 1) [] rest within (and_parts (is_short_order stream (Batch cs)) (is_short stream (orders_of [] rest)) short).1)
-asked-orders_of stream n cs (line_variants.Order order ∷ rest) within short =
-    ap (λ (os : List Order). last_order cs ++ order ∷ os) (asked-orders_of stream (n + 1) [] rest within (short_last stream cs order (orders_of [] rest) short))
-asked-orders_of stream n cs (Blank ∷ rest) within short = asked-orders_of stream (n + 1) cs rest within short
-asked-orders_of stream n cs (Bad why ∷ rest) within short = absurd within
-asked-orders_of stream n cs (line_variants.Lost ∷ rest) within short = absurd within
+    (asked-orders_of bounds (n + 1) [] rest good (and_parts (is_within_bounds bounds (Batch cs)) (are_within_bounds bounds (orders_of [] rest)) within).1)
+asked-orders_of bounds n cs (line_variants.Order order ∷ rest) good within =
+    ap (λ (os : List Order). last_order cs ++ order ∷ os) (asked-orders_of bounds (n + 1) [] rest good (within_last bounds cs order (orders_of [] rest) within))
+asked-orders_of bounds n cs (Blank ∷ rest) good within = asked-orders_of bounds (n + 1) cs rest good within
+asked-orders_of bounds n cs (Bad why ∷ rest) good within = absurd good
+asked-orders_of bounds n cs (line_variants.Lost ∷ rest) good within = absurd good

@@ -1,8 +1,8 @@
 -- Lemmas on a stream after a refusal or a bad line.
-use Rattle.std.proofs.Common.{◌≡◌, ◌+◌, ◌<◌, ◌⊎◌, inl, inr, ℕ, suc, Bool, true, cond, length, arith, List, [], ◌∷◌, ◌++◌, Option, Some, None, Ok, Err, refl, sym, ap, ◌∙◌, length-append}
+use Rattle.std.proofs.Common.{◌≡◌, ◌+◌, ◌<◌, ◌⊎◌, ◌||◌, ◌&&◌, ◌==◌, not, nat_lt, if◌then◌else◌, inl, inr, ℕ, suc, Bool, true, false, cond, length, arith, List, [], ◌∷◌, ◌++◌, Option, Some, None, Ok, Err, refl, sym, ap, ◌∙◌, length-append}
 use Rattle.std.specs.Option.{option_or}
 use Rattle.std.specs.declared.alloc.Global.{Global}
-use Rattle.std.proofs.lemmas.Bool.{lt-ltb}
+use Rattle.std.proofs.lemmas.Bool.{eq-eqb, lt-ltb, ne_eqb}
 use Rattle.keys.specs.Bytes.{Bytes, Pairs}
 use Rattle.keys.specs.declared.command.Command.{Command}
 use Rattle.keys.specs.declared.fault.Fault.{Fault}
@@ -14,13 +14,16 @@ use Rattle.climb_plan.specs.Plan.{planned_tree}
 use Rattle.engine.specs.Batch.{height_fault}
 use Rattle.engine.specs.Refusal.{first_fault}
 use Rattle.engine.specs.Steps.{Answer, Step, Stepped, after_step, batching, unless_refused}
+use Rattle.engine.specs.Tokens.{most_rows}
 use Rattle.bwsh.specs.declared.line.Line.{Line}
 use Rattle.bwsh.specs.declared.line.Line.TheVariants.{Bad, Blank, Go}
 use Rattle.bwsh.specs.declared.line.Line.TheVariants as line_variants
 use Rattle.bwsh.specs.declared.line.Why.{Why}
+use Rattle.bwsh.specs.declared.line.Why.TheVariants.{TooManyRows}
+use Rattle.bwsh.specs.declared.order.Bounds.{Bounds}
 use Rattle.bwsh.specs.declared.order.Order.{Order}
-use Rattle.bwsh.specs.declared.order.Order.TheVariants.{Batch, Flush, Lost, Tidy}
-use Rattle.bwsh.specs.BatchFile.{IsInBatch, asked, first_bad, is_too_long}
+use Rattle.bwsh.specs.declared.order.Order.TheVariants.{BadLine, Batch, Flush, Lost, Tidy}
+use Rattle.bwsh.specs.BatchFile.{IsInBatch, IsReadAs, Pending, asked, asks_too_much, first_bad, is_too_long, or_over}
 use Rattle.bwsh.specs.BatchFile.Pending.{begun, skipped}
 use Rattle.bwsh.specs.Session.{Reads, Seen, Stored, after_order, answer_then, answered, by_batches, fault_line, front_lines, later, left_by, left_by_step, left_unless, map_unless, own_lines, own_refusal, refusal_of, readied, refusal_of_step, refused_by, step_in}
 use Rattle.bwsh.proofs.TidiedLemmas.{holds-cleaned, holds-tidied}
@@ -98,35 +101,83 @@ refusal-lost settings st seen none = ap (λ (r : Option Fault). option_or r (Som
 one_more : (n k : ℕ) → n + 1 + k ≡ n + suc k
 one_more n k = omega arith
 
-skipped_over : (stream : Bool) (n : ℕ) (front tail : List Line) → IsInBatch front → asked stream n skipped (front ++ tail) ≡ asked stream (n + length front) skipped tail
-skipped_over stream n [] tail inside = ap (λ (k : ℕ). asked stream k skipped tail) (omega arith)
-skipped_over stream n (Go ∷ front) tail inside = absurd inside
-skipped_over stream n (line_variants.Order order ∷ front) tail inside = absurd inside
-skipped_over stream n (Blank ∷ front) tail inside = skipped_over stream (n + 1) front tail inside ∙ ap (λ (k : ℕ). asked stream k skipped tail) (one_more n (length front))
-skipped_over stream n (line_variants.Command command ∷ front) tail inside = skipped_over stream (n + 1) front tail inside ∙ ap (λ (k : ℕ). asked stream k skipped tail) (one_more n (length front))
-skipped_over stream n (Bad why ∷ front) tail inside = skipped_over stream (n + 1) front tail inside ∙ ap (λ (k : ℕ). asked stream k skipped tail) (one_more n (length front))
-skipped_over stream n (line_variants.Lost ∷ front) tail inside = skipped_over stream (n + 1) front tail inside ∙ ap (λ (k : ℕ). asked stream k skipped tail) (one_more n (length front))
+skipped_over : (bounds : Bounds) (n : ℕ) (front tail : List Line) → IsInBatch front → asked bounds n skipped (front ++ tail) ≡ asked bounds (n + length front) skipped tail
+skipped_over bounds n [] tail inside = ap (λ (k : ℕ). asked bounds k skipped tail) (omega arith)
+skipped_over bounds n (Go ∷ front) tail inside = absurd inside
+skipped_over bounds n (line_variants.Order order ∷ front) tail inside = absurd inside
+skipped_over bounds n (Blank ∷ front) tail inside = skipped_over bounds (n + 1) front tail inside ∙ ap (λ (k : ℕ). asked bounds k skipped tail) (one_more n (length front))
+skipped_over bounds n (line_variants.Command command ∷ front) tail inside = skipped_over bounds (n + 1) front tail inside ∙ ap (λ (k : ℕ). asked bounds k skipped tail) (one_more n (length front))
+skipped_over bounds n (Bad why ∷ front) tail inside = skipped_over bounds (n + 1) front tail inside ∙ ap (λ (k : ℕ). asked bounds k skipped tail) (one_more n (length front))
+skipped_over bounds n (line_variants.Lost ∷ front) tail inside = skipped_over bounds (n + 1) front tail inside ∙ ap (λ (k : ℕ). asked bounds k skipped tail) (one_more n (length front))
 
 one_after : (n k : ℕ) → n + k + 1 ≡ n + (k + 1)
 one_after n k = omega arith
 
 -- up to a line `go`
-pub skipped-go : (stream : Bool) (n : ℕ) (front : List Line) → IsInBatch front → (rest : List Line) → asked stream n skipped (front ++ Go ∷ rest) ≡ asked stream (n + (length front + 1)) (begun []) rest
-skipped-go stream n front inside rest =
-    skipped_over stream n front (Go ∷ rest) inside ∙ ap (λ (k : ℕ). asked stream k (begun []) rest) (one_after n (length front))
+pub skipped-go : (bounds : Bounds) (n : ℕ) (front : List Line) → IsInBatch front → (rest : List Line) → asked bounds n skipped (front ++ Go ∷ rest) ≡ asked bounds (n + (length front + 1)) (begun []) rest
+skipped-go bounds n front inside rest =
+    skipped_over bounds n front (Go ∷ rest) inside ∙ ap (λ (k : ℕ). asked bounds k (begun []) rest) (one_after n (length front))
 
 -- or up to a line with its own order, which is run
-pub skipped-order : (stream : Bool) (n : ℕ) (front : List Line) → IsInBatch front → (order : Order) (rest : List Line)
-    → asked stream n skipped (front ++ line_variants.Order order ∷ rest) ≡ order ∷ asked stream (n + (length front + 1)) (begun []) rest
-skipped-order stream n front inside order rest =
-    skipped_over stream n front (line_variants.Order order ∷ rest) inside ∙ ap (λ (k : ℕ). order ∷ asked stream k (begun []) rest) (one_after n (length front))
+pub skipped-order : (bounds : Bounds) (n : ℕ) (front : List Line) → IsInBatch front → (order : Order) (rest : List Line)
+    → asked bounds n skipped (front ++ line_variants.Order order ∷ rest) ≡ order ∷ asked bounds (n + (length front + 1)) (begun []) rest
+skipped-order bounds n front inside order rest =
+    skipped_over bounds n front (line_variants.Order order ∷ rest) inside ∙ ap (λ (k : ℕ). order ∷ asked bounds k (begun []) rest) (one_after n (length front))
+
+-- ---- a batch that is over a bound
+
+if_over : (bounds : Bounds) (n : ℕ) (cs : List (Command Global)) (next : Pending → List Order) (too_much too_long : Bool) → asks_too_much bounds cs ≡ too_much → is_too_long bounds cs ≡ too_long
+    → or_over bounds n cs next ≡ (if too_much || too_long then (if too_much then BadLine n TooManyRows else Batch cs) ∷ next skipped else next (begun cs))
+if_over bounds n cs next too_much too_long rows long = rw (← rows, ← long) refl
+
+-- the command that makes a batch ask for too many rows is a bad line
+pub asked-too_many : (bounds : Bounds) → bounds.is_stream ≡ true → 0 < bounds.max_rows → (n : ℕ) (pending : List (Command Global)) (command : Command Global)
+    → bounds.max_rows < most_rows (pending ++ command ∷ []) → (rest : List Line)
+    → asked bounds n (begun pending) (line_variants.Command command ∷ rest) ≡ BadLine n TooManyRows ∷ asked bounds (n + 1) skipped rest
+asked-too_many bounds streams some n pending command many rest =
+    let more : List (Command Global) = pending ++ command ∷ [] in
+    let bounded : (bounds.max_rows == 0) ≡ false = ne_eqb bounds.max_rows 0 (λ none. omega (arith, some, none)) in
+    let beyond : nat_lt bounds.max_rows (most_rows more) ≡ true = lt-ltb bounds.max_rows (most_rows more) many in
+    let over : asks_too_much bounds more ≡ true = all_three bounds.is_stream (bounds.max_rows == 0) (nat_lt bounds.max_rows (most_rows more)) streams bounded beyond in
+    if_over bounds n more (λ pending. asked bounds (n + 1) pending rest) true (is_too_long bounds more) over refl
+  where
+    all_three : (a b c : Bool) → a ≡ true → b ≡ false → c ≡ true → (a && not b && c) ≡ true
+    all_three true false true e f g = refl
+    all_three true false false e f g = absurd (cc)
+    all_three true true c e f g = absurd (cc)
+    all_three false b c e f g = absurd (cc)
 
 -- the command that makes a batch too long ends it
-pub asked-too_long : (n : ℕ) (pending : List (Command Global)) → length pending ≡ 65535 → (command : Command Global) (rest : List Line)
-    → asked true n (begun pending) (line_variants.Command command ∷ rest) ≡ Batch (pending ++ command ∷ []) ∷ asked true (n + 1) skipped rest
-asked-too_long n pending many command rest =
-    let long : is_too_long true (pending ++ command ∷ []) ≡ true = lt-ltb 65535 (length (pending ++ command ∷ [])) (omega (arith, many, length-append pending (command ∷ []))) in
-    ap (λ (b : Bool). cond b (Batch (pending ++ command ∷ []) ∷ asked true (n + 1) skipped rest) (asked true (n + 1) (begun (pending ++ command ∷ [])) rest)) long
+pub asked-too_long : (bounds : Bounds) → bounds.is_stream ≡ true → (n : ℕ) (pending : List (Command Global)) → length pending ≡ 65535 → (command : Command Global)
+    → asks_too_much bounds (pending ++ command ∷ []) ≡ false → (rest : List Line)
+    → asked bounds n (begun pending) (line_variants.Command command ∷ rest) ≡ Batch (pending ++ command ∷ []) ∷ asked bounds (n + 1) skipped rest
+asked-too_long bounds streams n pending many command few rest =
+    let more : List (Command Global) = pending ++ command ∷ [] in
+    let beyond : nat_lt 65535 (length more) ≡ true = lt-ltb 65535 (length more) (omega (arith, many, length-append pending (command ∷ []))) in
+    if_over bounds n more (λ pending. asked bounds (n + 1) pending rest) false true few (both bounds.is_stream (nat_lt 65535 (length more)) streams beyond)
+  where
+    both : (a b : Bool) → a ≡ true → b ≡ true → (a && b) ≡ true
+    both true b e f = f
+    both false b e f = absurd (cc)
+
+-- a bound of 0 is none
+pub never_over : (bounds : Bounds) → bounds.max_rows ≡ 0 → (commands : List (Command Global)) → asks_too_much bounds commands ≡ false
+never_over bounds none commands = by bounds.is_stream (bounds.max_rows == 0) (nat_lt bounds.max_rows (most_rows commands)) (eq-eqb bounds.max_rows 0 none)
+  where
+    by : (a b c : Bool) → b ≡ true → (a && not b && c) ≡ false
+    by true true c e = refl
+    by false b c e = refl
+    by true false c e = absurd (cc)
+
+-- ---- a line that ends a batch
+
+-- it was read as it is, or it is refused
+pub order-read : (order : Order) (got : Line) → IsReadAs true (line_variants.Order order) got → (got ≡ line_variants.Order order) ⊎ (got ≡ line_variants.Order Lost)
+order-read order got read = read
+
+pub go-read : (got : Line) → IsReadAs true Go got → got ≡ Go
+go-read got (inl is) = is
+go-read got (inr lost) = absurd lost
 
 -- ---- the first bad line
 

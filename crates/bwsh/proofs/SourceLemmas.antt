@@ -1,5 +1,5 @@
 -- Lemmas on the source of a session's orders: the lines that it reads, and their orders.
-use Rattle.std.proofs.Common.{◌≡◌, ◌≢◌, ◌≤◌, ◌<◌, ◌+◌, ◌-◌, ◌==◌, ◌&&◌, ◌⊎◌, inl, inr, ℕ, suc, length, take, take_all, drop, slice_index, Bool, true, false, cond, List, [], ◌∷◌, ◌++◌, map, filter, All, Option, Some, None, IfSome, option_to_list, Result, Ok, Err, IfOk, OnOk, is_err, is_ok, nat_eq, refl, sym, ap, ◌∙◌, subst, append_assoc, append-nil, arith, lt-ltb, eqb-true, eq-eqb, le_refl, nat_lt, if◌then◌else◌}
+use Rattle.std.proofs.Common.{◌≡◌, ◌≢◌, ◌≤◌, ◌<◌, ◌+◌, ◌-◌, ◌==◌, ◌&&◌, ◌||◌, ◌⊎◌, inl, inr, ℕ, suc, length, take, take_all, drop, slice_index, Bool, true, false, cond, List, [], ◌∷◌, ◌++◌, map, filter, All, Option, Some, None, IfSome, option_to_list, Result, Ok, Err, IfOk, OnOk, is_err, is_ok, nat_eq, refl, sym, ap, ◌∙◌, subst, append_assoc, append-nil, arith, lt-ltb, eqb-true, eq-eqb, le_refl, nat_lt, if◌then◌else◌}
 use Rattle.std.specs.Bool.{then_some}
 use Rattle.std.specs.Io.{StartsWith, StopsAt, IsEmptyOrEndsWith}
 use Rattle.std.specs.Io.BufRead.{DropsConsumable, DropsThrough, drop_through, ends_with_byte, take_through}
@@ -15,13 +15,15 @@ use Rattle.bstr.specs.Text.{last_byte_of, line_len, lines_of, without_terminator
 use Rattle.bstr.proofs.lemmas.LineLemmas.{line_len-at, line_len-bounds, line_len-none, lines-nil, lines-step}
 use Rattle.keys.specs.declared.command.Command.{Command}
 use Rattle.bwsh.specs.declared.line.Line.{Line}
-use Rattle.bwsh.specs.declared.line.Line.TheVariants.{Bad}
+use Rattle.bwsh.specs.declared.line.Line.TheVariants.{Bad, Blank, Go}
 use Rattle.bwsh.specs.declared.line.Line.TheVariants as line_variants
 use Rattle.bwsh.specs.declared.line.Why.{Why}
+use Rattle.bwsh.specs.declared.line.Why.TheVariants.{TooManyRows}
+use Rattle.bwsh.specs.declared.order.Bounds.{Bounds}
 use Rattle.bwsh.specs.declared.order.Order.{Order}
-use Rattle.bwsh.specs.declared.order.Order.TheVariants.{Batch, BadLine}
+use Rattle.bwsh.specs.declared.order.Order.TheVariants.{Batch, BadLine, Lost}
 use Rattle.bwsh.specs.declared.source.Source.{Source}
-use Rattle.bwsh.specs.BatchFile.{AreRead, Pending, asked, is_too_long, or_too_long, parse_text}
+use Rattle.bwsh.specs.BatchFile.{AreRead, IsLostAs, IsReadAs, Pending, asked, asks_too_much, is_over, is_too_long, or_over, over_order, parse_text}
 use Rattle.bwsh.specs.BatchFile.Pending.{begun, skipped}
 use Rattle.bwsh.specs.Line.{parse_line}
 use Rattle.bwsh.specs.Source.{IsBatched, IsKept, IsNext, IsParsed, IsPushed, IsRead, IsSkipped, IsToCome, Orders, is_line, pending_of, to_come, unended}
@@ -237,10 +239,10 @@ IsRead-lost stream (Some text) (Some xs) left bytes line read lost =
 
 -- it was parsed
 pub IsParsed-some : (stream : Bool) (text bytes : List ℕ) (last : Option ℕ) (b : Bool) (line : Line) → b ≡ is_line stream last → last ≡ last_byte_of text → b ≡ true
-    → bytes ≡ without_terminator text → (line ≡ parse_line stream bytes) ⊎ (line ≡ line_variants.Lost) → IsParsed stream text (Some line)
+    → bytes ≡ without_terminator text → IsReadAs stream (parse_line stream bytes) line → IsParsed stream text (Some line)
 IsParsed-some stream text bytes last b line is ends holds inner parsed = (
   sym (is ∙ ap (λ (o : Option ℕ). is_line stream o) ends) ∙ holds,
-  subst (λ (l : List ℕ). (line ≡ parse_line stream l) ⊎ (line ≡ line_variants.Lost)) inner parsed,
+  subst (λ (l : List ℕ). IsReadAs stream (parse_line stream l) line) inner parsed,
 )
 
 pub IsParsed-none : (stream : Bool) (text : List ℕ) (last : Option ℕ) (b : Bool) → b ≡ is_line stream last → last ≡ last_byte_of text → b ≡ false → IsParsed stream text None
@@ -364,16 +366,21 @@ Skips-at_end (Some xs) (Some ys) (Some zs) read last (part, rest, is, stops, end
     (take_through-append 10 part [] inside ∙ append-nil part) ends
     (ap (λ (l : List ℕ). Some l) (all_read ∙ sym (drop_through-append 10 part [] inside)))
 
--- if there was a line, it was lost
-pub IsParsed-lost : (stream : Bool) (known left : Option (List ℕ)) (read : List ℕ) (last : Option ℕ) (b : Bool) (line : Option Line) → IsSkippedWhole known left read last
+-- any line of a text can be lost
+lost_in_text : (stream : Bool) (said : Line) → stream ≡ false → IsLostAs stream said line_variants.Lost
+lost_in_text true said e = absurd (cc)
+lost_in_text false said e = refl
+
+-- if there was a line of a text, it was lost
+pub IsParsed-lost : (stream : Bool) → stream ≡ false → (known left : Option (List ℕ)) (read : List ℕ) (last : Option ℕ) (b : Bool) (line : Option Line) → IsSkippedWhole known left read last
     → b ≡ is_line stream last → line ≡ then_some b line_variants.Lost
     → IfSome known (λ xs. IsParsed stream (take_through 10 (read ++ xs)) line × (left ≡ Some (drop_through 10 (read ++ xs))))
-IsParsed-lost stream None left read last b line skipped_whole is line_is = tt
-IsParsed-lost stream (Some xs) left read last b line (ends, left_is) is line_is =
+IsParsed-lost stream no_stream None left read last b line skipped_whole is line_is = tt
+IsParsed-lost stream no_stream (Some xs) left read last b line (ends, left_is) is line_is =
     (subst (λ (o : Option Line). IsParsed stream (take_through 10 (read ++ xs)) o) (sym line_is) (by b (is ∙ ap (λ (o : Option ℕ). is_line stream o) ends)), left_is)
   where
     by : (b : Bool) → b ≡ is_line stream (last_byte_of (take_through 10 (read ++ xs))) → IsParsed stream (take_through 10 (read ++ xs)) (then_some b line_variants.Lost)
-    by true e = (sym e, inr refl)
+    by true e = (sym e, inr (lost_in_text stream (parse_line stream (without_terminator (take_through 10 (read ++ xs)))) no_stream))
     by false e = sym e
 
 -- the line that was read is such a line
@@ -384,37 +391,46 @@ IsRead-skipped stream known mid left before bytes (Err e) none read lost = tt
 IsRead-skipped stream known mid left before bytes (Ok line) none read lost =
     IsRead-lost stream known mid left bytes line (subst (λ (l : List ℕ). Consumes known mid (drop (length l) bytes)) none read) lost
 
--- this holds if a call succeeds
-pub ok_so : {X E : Type 0} (r : Result X E) (b : Bool) (P : Type 0) → b ≡ is_err r → b ≡ false → OnOk r P → P
-ok_so (Ok x) b P is fails p = p
-ok_so (Err e) b P is fails p = let bad : true ≡ false = sym is ∙ fails in absurd (cc)
+-- this holds of the value of a call that succeeds
+pub ok_has : {X E : Type 0} (r : Result X E) (b : Bool) (P : X → Type 0) → b ≡ is_err r → b ≡ false → IfOk r P → (x : X) × P x
+ok_has (Ok x) b P is fails p = (x, p)
+ok_has (Err e) b P is fails p = let bad : true ≡ false = sym is ∙ fails in absurd (cc)
 
 -- ---- the orders of a line, before others
 
-line_order : (stream : Bool) (n : ℕ) (pending : Pending) (order : Order) (rest : List Line)
-    → asked stream n pending (line_variants.Order order ∷ rest) ≡ unended pending ++ (order ∷ asked stream (n + 1) (begun []) rest)
-line_order stream n (begun cs) order rest = refl
-line_order stream n skipped order rest = refl
+line_order : (bounds : Bounds) (n : ℕ) (pending : Pending) (order : Order) (rest : List Line)
+    → asked bounds n pending (line_variants.Order order ∷ rest) ≡ unended pending ++ (order ∷ asked bounds (n + 1) (begun []) rest)
+line_order bounds n (begun cs) order rest = refl
+line_order bounds n skipped order rest = refl
 
 -- a line is answered at once, and discards its batch
-abbrev Discards : Bool → ℕ → Line → Order → Type 0
-Discards stream n line answer =
-    (is_discarded : Bool) (cs : List (Command Global)) (rest : List Line) → asked stream n (if is_discarded then skipped else begun cs) (line ∷ rest)
-    ≡ option_to_list (if is_discarded then None else Some answer) ++ asked stream (n + 1) skipped rest
+abbrev Discards : Bounds → ℕ → Line → Order → Type 0
+Discards bounds n line answer =
+    (is_discarded : Bool) (cs : List (Command Global)) (rest : List Line) → asked bounds n (if is_discarded then skipped else begun cs) (line ∷ rest)
+    ≡ option_to_list (if is_discarded then None else Some answer) ++ asked bounds (n + 1) skipped rest
 
-Discards-bad : (stream : Bool) (n : ℕ) (why : Why) → Discards stream n (Bad why) (BadLine n why)
-Discards-bad stream n why true cs rest = refl
-Discards-bad stream n why false cs rest = refl
+Discards-bad : (bounds : Bounds) (n : ℕ) (why : Why) → Discards bounds n (Bad why) (BadLine n why)
+Discards-bad bounds n why true cs rest = refl
+Discards-bad bounds n why false cs rest = refl
+
+Discards-lost : (bounds : Bounds) (n : ℕ) → Discards bounds n line_variants.Lost Lost
+Discards-lost bounds n true cs rest = refl
+Discards-lost bounds n false cs rest = refl
+
+-- a command can be lost
+lost_command : (stream : Bool) (command : Command Global) → IsReadAs stream (line_variants.Command command) line_variants.Lost
+lost_command true command = inr refl
+lost_command false command = inr refl
 
 module _ {I : Type 0} (old new : Source I) where
-  Orders-by : (line got : Line) (order : Option Order) (after : Pending) → (got ≡ line) ⊎ (got ≡ line_variants.Lost) → new.queued ≡ None → pending_of new ≡ after
-      → ((rest : List Line) → asked old.is_stream old.number (pending_of old) (got ∷ rest) ≡ option_to_list order ++ asked old.is_stream (old.number + 1) after rest)
+  Orders-by : (line got : Line) (order : Option Order) (after : Pending) → IsReadAs old.bounds.is_stream line got → new.queued ≡ None → pending_of new ≡ after
+      → ((rest : List Line) → asked old.bounds old.number (pending_of old) (got ∷ rest) ≡ option_to_list order ++ asked old.bounds (old.number + 1) after rest)
       → Orders old new line order
   Orders-by line got order after either none is h = (
     got,
     either,
     λ rest.
-        let later : Pending → List Order = λ pending. asked old.is_stream (old.number + 1) pending rest in
+        let later : Pending → List Order = λ pending. asked old.bounds (old.number + 1) pending rest in
         h rest
         ∙ ap (λ (pending : Pending). option_to_list order ++ later pending) (sym is)
         ∙ ap (λ (queued : Option Order). option_to_list order ++ (option_to_list queued ++ later (pending_of new))) (sym none),
@@ -426,122 +442,172 @@ module _ {I : Type 0} (old new : Source I) where
     line_variants.Order asked_for,
     inl refl,
     λ rest.
-        let later : List Order = asked old.is_stream (old.number + 1) (begun []) rest in
-        line_order old.is_stream old.number (pending_of old) asked_for rest
+        let later : List Order = asked old.bounds (old.number + 1) (begun []) rest in
+        line_order old.bounds old.number (pending_of old) asked_for rest
         ∙ sym (append_assoc (unended (pending_of old)) (asked_for ∷ []) later)
         ∙ ap (λ (orders : List Order). orders ++ later) (sym is)
         ∙ append_assoc (option_to_list order) (option_to_list new.queued) later
-        ∙ ap (λ (pending : Pending). option_to_list order ++ (option_to_list new.queued ++ asked old.is_stream (old.number + 1) pending rest)) (sym after),
+        ∙ ap (λ (pending : Pending). option_to_list order ++ (option_to_list new.queued ++ asked old.bounds (old.number + 1) pending rest)) (sym after),
   )
 
-  Orders-discarded : (line got : Line) (answer : Order) (order : Option Order) → (got ≡ line) ⊎ (got ≡ line_variants.Lost) → Discards old.is_stream old.number got answer
+  Orders-discarded : (line got : Line) (answer : Order) (order : Option Order) → IsReadAs old.bounds.is_stream line got → Discards old.bounds old.number got answer
       → order ≡ (if old.is_discarded then None else Some answer) → pending_of new ≡ skipped → new.queued ≡ None → Orders old new line order
   Orders-discarded line got answer order either discards is after none =
       Orders-by line got order skipped either none after (λ rest.
       discards old.is_discarded old.batch rest
-      ∙ ap (λ (o : Option Order). option_to_list o ++ asked old.is_stream (old.number + 1) skipped rest) (sym is))
+      ∙ ap (λ (o : Option Order). option_to_list o ++ asked old.bounds (old.number + 1) skipped rest) (sym is))
 
   pub Orders-bad : (why : Why) (order : Option Order) → order ≡ (if old.is_discarded then None else Some (BadLine old.number why)) → pending_of new ≡ skipped
       → new.queued ≡ None → Orders old new (Bad why) order
-  Orders-bad why order = Orders-discarded (Bad why) (Bad why) (BadLine old.number why) order (inl refl) (Discards-bad old.is_stream old.number why)
+  Orders-bad why order = Orders-discarded (Bad why) (Bad why) (BadLine old.number why) order (inl refl) (Discards-bad old.bounds old.number why)
 
-  -- a command makes its batch too long
-  pub Orders-too_long : (command : Command Global) (batch : List (Command Global)) (order : Option Order) → old.is_discarded ≡ false → batch ≡ old.batch ++ command ∷ []
-      → order ≡ (if old.is_discarded then None else Some (Batch batch)) → is_too_long old.is_stream batch ≡ true → pending_of new ≡ skipped → new.queued ≡ None
+  Orders-lost : (line : Line) (order : Option Order) → IsReadAs old.bounds.is_stream line line_variants.Lost → order ≡ (if old.is_discarded then None else Some Lost)
+      → pending_of new ≡ skipped → new.queued ≡ None → Orders old new line order
+  Orders-lost line order read = Orders-discarded line line_variants.Lost Lost order read (Discards-lost old.bounds old.number)
+
+  -- an allocation fails for a command
+  pub Orders-lost_command : (command : Command Global) (order : Option Order) → order ≡ (if old.is_discarded then None else Some Lost) → pending_of new ≡ skipped
+      → new.queued ≡ None → Orders old new (line_variants.Command command) order
+  Orders-lost_command command order = Orders-lost (line_variants.Command command) order (lost_command old.bounds.is_stream command)
+
+  -- or for a line that may be a command
+  pub Orders-lost_line : (order : Option Order) → order ≡ (if old.is_discarded then None else Some Lost) → pending_of new ≡ skipped
+      → new.queued ≡ None → Orders old new line_variants.Lost order
+  Orders-lost_line order = Orders-lost line_variants.Lost order (inl refl)
+
+  -- a command makes its batch exceed a bound
+  Orders-over : (command : Command Global) (batch : List (Command Global)) (order : Option Order) (answer : Order) → old.is_discarded ≡ false → batch ≡ old.batch ++ command ∷ []
+      → over_order old.bounds old.number batch ≡ answer → order ≡ Some answer → is_over old.bounds batch ≡ true → pending_of new ≡ skipped → new.queued ≡ None
       → Orders old new (line_variants.Command command) order
-  Orders-too_long command batch order not_yet is answer long after none =
+  Orders-over command batch order answer not_yet is answers ordered over after none =
       let line : Line = line_variants.Command command in
       Orders-by line line order skipped (inl refl) none after (λ rest.
-      let next : Pending → List Order = λ pending. asked old.is_stream (old.number + 1) pending rest in
-      let answered : order ≡ Some (Batch batch) = answer ∙ ap (λ (b : Bool). if b then None else Some (Batch batch)) not_yet in
-      ap (λ (b : Bool). asked old.is_stream old.number (if b then skipped else begun old.batch) (line ∷ rest)) not_yet
-      ∙ ap (λ (cs : List (Command Global)). or_too_long old.is_stream cs next) (sym is)
-      ∙ ap (λ (b : Bool). if b then Batch batch ∷ next skipped else next (begun batch)) long
-      ∙ ap (λ (o : Option Order). option_to_list o ++ next skipped) (sym answered))
+      let next : Pending → List Order = λ pending. asked old.bounds (old.number + 1) pending rest in
+      ap (λ (b : Bool). asked old.bounds old.number (if b then skipped else begun old.batch) (line ∷ rest)) not_yet
+      ∙ ap (λ (cs : List (Command Global)). or_over old.bounds old.number cs next) (sym is)
+      ∙ ap (λ (b : Bool). if b then over_order old.bounds old.number batch ∷ next skipped else next (begun batch)) over
+      ∙ ap (λ (first : Order). first ∷ next skipped) answers
+      ∙ ap (λ (o : Option Order). option_to_list o ++ next skipped) (sym ordered))
+
+  -- the line asks for too many rows
+  pub Orders-too_many : (command : Command Global) (batch : List (Command Global)) (order : Option Order) → old.is_discarded ≡ false → batch ≡ old.batch ++ command ∷ []
+      → order ≡ (if old.is_discarded then None else Some (BadLine old.number TooManyRows)) → asks_too_much old.bounds batch ≡ true → pending_of new ≡ skipped → new.queued ≡ None
+      → Orders old new (line_variants.Command command) order
+  Orders-too_many command batch order not_yet is answer many =
+      let bad : Order = BadLine old.number TooManyRows in
+      Orders-over command batch order bad not_yet is (ap (λ (b : Bool). if b then bad else Batch batch) many)
+      (answer ∙ ap (λ (b : Bool). if b then None else Some bad) not_yet) (ap (λ (b : Bool). b || is_too_long old.bounds batch) many)
+
+  -- the batch is too long
+  pub Orders-too_long : (command : Command Global) (batch : List (Command Global)) (order : Option Order) → old.is_discarded ≡ false → batch ≡ old.batch ++ command ∷ []
+      → order ≡ (if old.is_discarded then None else Some (Batch batch)) → asks_too_much old.bounds batch ≡ false → is_too_long old.bounds batch ≡ true → pending_of new ≡ skipped
+      → new.queued ≡ None → Orders old new (line_variants.Command command) order
+  Orders-too_long command batch order not_yet is answer few long =
+      Orders-over command batch order (Batch batch) not_yet is (ap (λ (b : Bool). if b then BadLine old.number TooManyRows else Batch batch) few)
+      (answer ∙ ap (λ (b : Bool). if b then None else Some (Batch batch)) not_yet)
+      (ap (λ (b : Bool). b || is_too_long old.bounds batch) few ∙ long)
 
 -- a command is one of a batch that is begun
 pub Orders-command : {I : Type 0} (old : Source I) (command : Command Global) (batch : List (Command Global)) → old.queued ≡ None → old.is_discarded ≡ false
-    → batch ≡ old.batch ++ command ∷ [] → is_too_long old.is_stream batch ≡ false → Orders old (record old { batch = batch }) (line_variants.Command command) None
-Orders-command old command batch none not_yet is short =
+    → batch ≡ old.batch ++ command ∷ [] → asks_too_much old.bounds batch ≡ false → is_too_long old.bounds batch ≡ false
+    → Orders old (record old { batch = batch }) (line_variants.Command command) None
+Orders-command old command batch none not_yet is few short =
     let line : Line = line_variants.Command command in
+    let within : is_over old.bounds batch ≡ false = ap (λ (b : Bool). b || is_too_long old.bounds batch) few ∙ short in
     Orders-by old (record old { batch = batch }) line line None (begun batch) (inl refl) none (ap (λ (b : Bool). if b then skipped else begun batch) not_yet) (λ rest.
-    let next : Pending → List Order = λ pending. asked old.is_stream (old.number + 1) pending rest in
-    ap (λ (b : Bool). asked old.is_stream old.number (if b then skipped else begun old.batch) (line ∷ rest)) not_yet
-    ∙ ap (λ (cs : List (Command Global)). or_too_long old.is_stream cs next) (sym is)
-    ∙ ap (λ (b : Bool). if b then Batch batch ∷ next skipped else next (begun batch)) short)
+    let next : Pending → List Order = λ pending. asked old.bounds (old.number + 1) pending rest in
+    ap (λ (b : Bool). asked old.bounds old.number (if b then skipped else begun old.batch) (line ∷ rest)) not_yet
+    ∙ ap (λ (cs : List (Command Global)). or_over old.bounds old.number cs next) (sym is)
+    ∙ ap (λ (b : Bool). if b then over_order old.bounds old.number batch ∷ next skipped else next (begun batch)) within)
 
 -- ---- what is still to come
 
-AreRead-same : (lines : List Line) → AreRead lines lines
-AreRead-same [] = tt
-AreRead-same (line ∷ rest) = (inl refl, AreRead-same rest)
+AreRead-same : (stream : Bool) (lines : List Line) → AreRead stream lines lines
+AreRead-same stream [] = tt
+AreRead-same stream (line ∷ rest) = (inl refl, AreRead-same stream rest)
 
-read_of : (stream : Bool) (known : Option (List ℕ)) → (parsed : List Line) × IfSome known (λ text. AreRead (parse_text stream text) parsed)
+read_of : (stream : Bool) (known : Option (List ℕ)) → (parsed : List Line) × IfSome known (λ text. AreRead stream (parse_text stream text) parsed)
 read_of stream None = ([], tt)
-read_of stream (Some text) = (parse_text stream text, AreRead-same (parse_text stream text))
+read_of stream (Some text) = (parse_text stream text, AreRead-same stream (parse_text stream text))
 
-either_said : (got line said_line : Line) → (got ≡ line) ⊎ (got ≡ line_variants.Lost) → (line ≡ said_line) ⊎ (line ≡ line_variants.Lost)
-    → (got ≡ said_line) ⊎ (got ≡ line_variants.Lost)
-either_said got line said_line (inr lost) either = inr lost
-either_said got line said_line (inl same) (inl is) = inl (same ∙ is)
-either_said got line said_line (inl same) (inr lost) = inr (same ∙ lost)
+stays_lost : (line got : Line) → line ≡ line_variants.Lost → IsLostAs true line got → got ≡ line
+stays_lost line got lost again = subst (λ (l : Line). IsLostAs true l got) lost again ∙ sym lost
 
-read_first : (stream : Bool) (known mid : Option (List ℕ)) (line got : Line) (parsed : List Line) → IsRead stream known mid (Some line) → (got ≡ line) ⊎ (got ≡ line_variants.Lost)
-    → IfSome mid (λ text. AreRead (parse_text stream text) parsed) → IfSome known (λ text. AreRead (parse_text stream text) (got ∷ parsed))
+stays_refused : (line got : Line) → line ≡ line_variants.Order Lost → IsLostAs true line got → got ≡ line
+stays_refused line got lost again = subst (λ (l : Line). IsLostAs true l got) lost again ∙ sym lost
+
+-- a lost line that is lost again remains as it is
+lost_again : (stream : Bool) (said line got : Line) → IsLostAs stream said line → IsLostAs stream line got → got ≡ line
+lost_again false said line got lost again = again ∙ sym lost
+lost_again true Blank line got lost again = absurd lost
+lost_again true Go line got lost again = absurd lost
+lost_again true (line_variants.Command command) line got lost again = stays_lost line got lost again
+lost_again true line_variants.Lost line got lost again = stays_lost line got lost again
+lost_again true (line_variants.Order order) line got lost again = stays_refused line got lost again
+lost_again true (Bad why) line got (inl lost) again = stays_lost line got lost again
+lost_again true (Bad why) line got (inr lost) again = stays_refused line got lost again
+
+read_again : (stream : Bool) (said line got : Line) → IsReadAs stream said line → IsReadAs stream line got → IsReadAs stream said got
+read_again stream said line got (inl is) again = subst (λ (l : Line). IsReadAs stream l got) is again
+read_again stream said line got (inr lost) (inl is) = inr (subst (IsLostAs stream said) (sym is) lost)
+read_again stream said line got (inr lost) (inr again) = inr (subst (IsLostAs stream said) (sym (lost_again stream said line got lost again)) lost)
+
+read_first : (stream : Bool) (known mid : Option (List ℕ)) (line got : Line) (parsed : List Line) → IsRead stream known mid (Some line) → IsReadAs stream line got
+    → IfSome mid (λ text. AreRead stream (parse_text stream text) parsed) → IfSome known (λ text. AreRead stream (parse_text stream text) (got ∷ parsed))
 read_first stream None mid line got parsed read either are = tt
 read_first stream (Some text) None line got parsed (said_line, rest, left, is, which) either are = absurd (cc)
 read_first stream (Some text) (Some bytes) line got parsed (said_line, rest, left, is, which) either are =
     let same : bytes ≡ rest = cc in
-    subst (λ (lines : List Line). AreRead lines (got ∷ parsed)) (sym is)
-    (either_said got line said_line either which, subst (λ (l : List ℕ). AreRead (parse_text stream l) parsed) same are)
+    subst (λ (lines : List Line). AreRead stream lines (got ∷ parsed)) (sym is)
+    (read_again stream said_line line got which either, subst (λ (l : List ℕ). AreRead stream (parse_text stream l) parsed) same are)
 
-read_none : (stream : Bool) (known left : Option (List ℕ)) → IsRead stream known left None → IfSome known (λ text. AreRead (parse_text stream text) [])
+read_none : (stream : Bool) (known left : Option (List ℕ)) → IsRead stream known left None → IfSome known (λ text. AreRead stream (parse_text stream text) [])
 read_none stream None left read = tt
-read_none stream (Some text) left read = subst (λ (lines : List Line). AreRead lines []) (sym read) tt
+read_none stream (Some text) left read = subst (λ (lines : List Line). AreRead stream lines []) (sym read) tt
 
 -- the orders to come, as a function of the values that determine them
-abbrev come : Option Order → Bool → Bool → ℕ → Pending → Option Order → List Line → List Order
-come queued ended stream n pending last parsed = option_to_list queued ++ (if ended then [] else asked stream (n + 1) pending parsed ++ option_to_list last)
+abbrev come : Option Order → Bool → Bounds → ℕ → Pending → Option Order → List Line → List Order
+come queued ended bounds n pending last parsed = option_to_list queued ++ (if ended then [] else asked bounds (n + 1) pending parsed ++ option_to_list last)
 
-same_come : (queued queued' : Option Order) (ended ended' stream stream' : Bool) (n n' : ℕ) (pending pending' : Pending) (last last' : Option Order) (parsed : List Line)
-    → queued ≡ queued' → ended ≡ ended' → stream ≡ stream' → n ≡ n' → pending ≡ pending' → last ≡ last'
-    → come queued ended stream n pending last parsed ≡ come queued' ended' stream' n' pending' last' parsed
-same_come queued queued' ended ended' stream stream' n n' pending pending' last last' parsed a b d e f g =
-    ap (λ (x : Option Order). come x ended stream n pending last parsed) a
-    ∙ ap (λ (x : Bool). come queued' x stream n pending last parsed) b
-    ∙ ap (λ (x : Bool). come queued' ended' x n pending last parsed) d
-    ∙ ap (λ (x : ℕ). come queued' ended' stream' x pending last parsed) e
-    ∙ ap (λ (x : Pending). come queued' ended' stream' n' x last parsed) f
-    ∙ ap (λ (x : Option Order). come queued' ended' stream' n' pending' x parsed) g
+same_come : (queued queued' : Option Order) (ended ended' : Bool) (bounds bounds' : Bounds) (n n' : ℕ) (pending pending' : Pending) (last last' : Option Order) (parsed : List Line)
+    → queued ≡ queued' → ended ≡ ended' → bounds ≡ bounds' → n ≡ n' → pending ≡ pending' → last ≡ last'
+    → come queued ended bounds n pending last parsed ≡ come queued' ended' bounds' n' pending' last' parsed
+same_come queued queued' ended ended' bounds bounds' n n' pending pending' last last' parsed a b d e f g =
+    ap (λ (x : Option Order). come x ended bounds n pending last parsed) a
+    ∙ ap (λ (x : Bool). come queued' x bounds n pending last parsed) b
+    ∙ ap (λ (x : Bounds). come queued' ended' x n pending last parsed) d
+    ∙ ap (λ (x : ℕ). come queued' ended' bounds' x pending last parsed) e
+    ∙ ap (λ (x : Pending). come queued' ended' bounds' n' x last parsed) f
+    ∙ ap (λ (x : Option Order). come queued' ended' bounds' n' pending' x parsed) g
 
-come_after : (order queued last : Option Order) (stream : Bool) (n : ℕ) (before after : Pending) (got : Line) (parsed : List Line)
-    → asked stream n before (got ∷ parsed) ≡ option_to_list order ++ (option_to_list queued ++ asked stream (n + 1) after parsed)
-    → option_to_list order ++ come queued false stream n after last parsed ≡ asked stream n before (got ∷ parsed) ++ option_to_list last
-come_after order queued last stream n before after got parsed is =
-    let later : List Order = asked stream (n + 1) after parsed in
+come_after : (order queued last : Option Order) (bounds : Bounds) (n : ℕ) (before after : Pending) (got : Line) (parsed : List Line)
+    → asked bounds n before (got ∷ parsed) ≡ option_to_list order ++ (option_to_list queued ++ asked bounds (n + 1) after parsed)
+    → option_to_list order ++ come queued false bounds n after last parsed ≡ asked bounds n before (got ∷ parsed) ++ option_to_list last
+come_after order queued last bounds n before after got parsed is =
+    let later : List Order = asked bounds (n + 1) after parsed in
     sym (ap (λ (orders : List Order). orders ++ option_to_list last) is
     ∙ append_assoc (option_to_list order) (option_to_list queued ++ later) (option_to_list last)
     ∙ ap (λ (orders : List Order). option_to_list order ++ orders) (append_assoc (option_to_list queued) later (option_to_list last)))
 
-asked-none : (stream : Bool) (n : ℕ) (pending : Pending) → asked stream n pending [] ≡ unended pending
-asked-none stream n (begun cs) = refl
-asked-none stream n skipped = refl
+asked-none : (bounds : Bounds) (n : ℕ) (pending : Pending) → asked bounds n pending [] ≡ unended pending
+asked-none bounds n (begun cs) = refl
+asked-none bounds n skipped = refl
 
 module _ {I : Type 0} (known : I → Option (List ℕ)) where
   -- no order was queued
   pub IsToCome-taken : (s : Source I) (queued : Option Order) → s.queued ≡ None → queued ≡ None → (rest : List Order)
       → IsToCome known (record s { queued = queued }) rest → IsToCome known s rest
   IsToCome-taken s queued none none_left rest (parsed, are, is) =
-      let later : List Order = if s.is_at_end then [] else asked s.is_stream (s.number + 1) (pending_of s) parsed ++ option_to_list s.last in
+      let later : List Order = if s.is_at_end then [] else asked s.bounds (s.number + 1) (pending_of s) parsed ++ option_to_list s.last in
       (parsed, are, is ∙ ap (λ (o : Option Order). option_to_list o ++ later) (none_left ∙ sym none))
 
   -- all was read
   pub IsToCome-ended : (s : Source I) → s.queued ≡ None → s.is_at_end ≡ true → IsToCome known s []
   IsToCome-ended s none ended =
-      let (parsed, are) = read_of s.is_stream (known s.input) in (
+      let (parsed, are) = read_of s.bounds.is_stream (known s.input) in (
         parsed,
         are,
-        sym (same_come s.queued None s.is_at_end true s.is_stream s.is_stream s.number s.number (pending_of s) (pending_of s) s.last s.last parsed none ended refl refl refl refl),
+        sym (same_come s.queued None s.is_at_end true s.bounds s.bounds s.number s.number (pending_of s) (pending_of s) s.last s.last parsed none ended refl refl refl refl),
       )
 
   pub IsNext-from : (first old new : Source I) (order : Option Order) → ((rest : List Order) → IsToCome known old rest → IsToCome known first rest)
@@ -554,40 +620,41 @@ module _ {I : Type 0} (known : I → Option (List ℕ)) where
     kept_pending =
         ap (λ (b : Bool). if b then skipped else begun old.batch) (sym kept.2) ∙ ap (λ (cs : List (Command Global)). if mid.is_discarded then skipped else begun cs) (sym kept.1)
 
-    old_come : (parsed : List Line) → to_come old parsed ≡ asked mid.is_stream (old.number + 1) (pending_of mid) parsed ++ option_to_list mid.last
+    old_come : (parsed : List Line) → to_come old parsed ≡ asked mid.bounds (old.number + 1) (pending_of mid) parsed ++ option_to_list mid.last
     old_come parsed =
-        same_come old.queued None old.is_at_end false old.is_stream mid.is_stream old.number old.number (pending_of old) (pending_of mid) old.last mid.last parsed
+        same_come old.queued None old.is_at_end false old.bounds mid.bounds old.number old.number (pending_of old) (pending_of mid) old.last mid.last parsed
         none going (sym kept.0) refl kept_pending (sym kept.4)
 
     -- a line was read, and its orders are next
-    pub IsToCome-line : (line : Line) → IsRead old.is_stream (known old.input) (known mid.input) (Some line) → mid.number ≡ old.number + 1 → Orders mid new line order
+    pub IsToCome-line : (line : Line) → IsRead old.bounds.is_stream (known old.input) (known mid.input) (Some line) → mid.number ≡ old.number + 1 → Orders mid new line order
         → IsBatched mid new → (rest : List Order) → IsToCome known new rest → IsToCome known old (option_to_list order ++ rest)
     IsToCome-line line read next (got, either, orders) batched rest (parsed, are, is) =
-        let there : IfSome (known mid.input) (λ text. AreRead (parse_text new.is_stream text) parsed) =
-        subst (λ (i : I). IfSome (known i) (λ text. AreRead (parse_text new.is_stream text) parsed)) batched.0 are in
-        let here : IfSome (known mid.input) (λ text. AreRead (parse_text old.is_stream text) parsed) =
-        subst (λ (b : Bool). IfSome (known mid.input) (λ text. AreRead (parse_text b text) parsed)) (batched.1 ∙ kept.0) there in
-        let rest_is : rest ≡ come new.queued false mid.is_stream mid.number (pending_of new) mid.last parsed =
+        let there : IfSome (known mid.input) (λ text. AreRead new.bounds.is_stream (parse_text new.bounds.is_stream text) parsed) =
+        subst (λ (i : I). IfSome (known i) (λ text. AreRead new.bounds.is_stream (parse_text new.bounds.is_stream text) parsed)) batched.0 are in
+        let own : IsReadAs old.bounds.is_stream line got = subst (λ (b : Bounds). IsReadAs b.is_stream line got) kept.0 either in
+        let here : IfSome (known mid.input) (λ text. AreRead old.bounds.is_stream (parse_text old.bounds.is_stream text) parsed) =
+        subst (λ (b : Bounds). IfSome (known mid.input) (λ text. AreRead b.is_stream (parse_text b.is_stream text) parsed)) (batched.1 ∙ kept.0) there in
+        let rest_is : rest ≡ come new.queued false mid.bounds mid.number (pending_of new) mid.last parsed =
         is
-        ∙ same_come new.queued new.queued new.is_at_end false new.is_stream mid.is_stream new.number mid.number (pending_of new) (pending_of new) new.last mid.last parsed
+        ∙ same_come new.queued new.queued new.is_at_end false new.bounds mid.bounds new.number mid.number (pending_of new) (pending_of new) new.last mid.last parsed
         refl (batched.4 ∙ kept.5 ∙ going) batched.1 batched.2 refl batched.3 in (
           got ∷ parsed,
-          read_first old.is_stream (known old.input) (known mid.input) line got parsed read either here,
+          read_first old.bounds.is_stream (known old.input) (known mid.input) line got parsed read own here,
           ap (λ (os : List Order). option_to_list order ++ os) rest_is
-              ∙ come_after order new.queued mid.last mid.is_stream mid.number (pending_of mid) (pending_of new) got parsed (orders parsed)
-              ∙ ap (λ (n : ℕ). asked mid.is_stream n (pending_of mid) (got ∷ parsed) ++ option_to_list mid.last) next
+              ∙ come_after order new.queued mid.last mid.bounds mid.number (pending_of mid) (pending_of new) got parsed (orders parsed)
+              ∙ ap (λ (n : ℕ). asked mid.bounds n (pending_of mid) (got ∷ parsed) ++ option_to_list mid.last) next
               ∙ sym (old_come (got ∷ parsed)),
         )
 
     -- there was no line, and the remaining orders are next
-    pub IsNext-ended : IsRead old.is_stream (known old.input) (known mid.input) None → option_to_list order ++ option_to_list new.queued ≡ unended (pending_of mid) ++ option_to_list mid.last
+    pub IsNext-ended : IsRead old.bounds.is_stream (known old.input) (known mid.input) None → option_to_list order ++ option_to_list new.queued ≡ unended (pending_of mid) ++ option_to_list mid.last
         → new.is_at_end ≡ true → (order ≡ None → new.queued ≡ None) → IsNext known old new order
     IsNext-ended read orders ended alone =
         next order (
           [],
-          read_none old.is_stream (known old.input) (known mid.input) read,
+          read_none old.bounds.is_stream (known old.input) (known mid.input) read,
           orders
-              ∙ ap (λ (os : List Order). os ++ option_to_list mid.last) (sym (asked-none mid.is_stream (old.number + 1) (pending_of mid)))
+              ∙ ap (λ (os : List Order). os ++ option_to_list mid.last) (sym (asked-none mid.bounds (old.number + 1) (pending_of mid)))
               ∙ sym (old_come []),
         ) alone
       where
@@ -598,7 +665,7 @@ module _ {I : Type 0} (known : I → Option (List ℕ)) where
         next (Some o) h alone = λ rest x.
             let rest_is : rest ≡ option_to_list new.queued =
             x.2
-            ∙ same_come new.queued new.queued new.is_at_end true new.is_stream new.is_stream new.number new.number (pending_of new) (pending_of new) new.last new.last x.0
+            ∙ same_come new.queued new.queued new.is_at_end true new.bounds new.bounds new.number new.number (pending_of new) (pending_of new) new.last new.last x.0
             refl ended refl refl refl refl
             ∙ append-nil (option_to_list new.queued) in
             subst (λ (os : List Order). IsToCome known old (o ∷ os)) (sym rest_is) h

@@ -42,9 +42,10 @@ with_settings app = with_rule (with_rule (with_rule (with_rule (with_rule (with_
 
 -- with the options for the crew and for the files
 abbrev pub with_work : App → App
-with_work app = with_rule (with_rule (with_rule (with_rule (with_rule (with_rule app
+with_work app = with_rule (with_rule (with_rule (with_rule (with_rule (with_rule (with_rule app
     (number_rule (codes "workers") (codes "1"))) (number_rule (codes "grain") (codes "64")))
-    (number_rule (codes "tidy") (codes "0"))) (number_rule (codes "wait") (codes "0"))) (text_rule (codes "disk"))) (text_rule (codes "copy-to"))
+    (number_rule (codes "tidy") (codes "0"))) (number_rule (codes "wait") (codes "0"))) (number_rule (codes "max-rows") (codes "0")))
+    (text_rule (codes "disk"))) (text_rule (codes "copy-to"))
 
 -- with the options that take no value
 abbrev pub with_flags : App → App
@@ -55,13 +56,14 @@ with_flags app = with_rule (with_rule (with_rule (with_rule (with_rule (with_rul
 
 -- the program with its options
 abbrev pub bwsh : App
-bwsh = with_rule (with_rule (with_rule (with_rule (with_rule (with_rule (with_rule (with_rule (with_rule (with_rule (with_rule (with_rule (with_rule (with_rule (with_rule (with_rule (with_rule (with_rule (with_rule (with_rule plain_bwsh
+bwsh = with_rule (with_rule (with_rule (with_rule (with_rule (with_rule (with_rule (with_rule (with_rule (with_rule (with_rule (with_rule (with_rule (with_rule (with_rule (with_rule (with_rule (with_rule (with_rule (with_rule (with_rule plain_bwsh
     (number_rule (codes "fan") (codes "16"))) (number_rule (codes "chain") (codes "4")))
     (number_rule (codes "max-key") (codes "64"))) (number_rule (codes "max-value") (codes "256")))
     (number_rule (codes "seg-size") (codes "65536"))) (number_rule (codes "segments") (codes "64")))
     (number_rule (codes "pairs") (codes "0")))
     (number_rule (codes "workers") (codes "1"))) (number_rule (codes "grain") (codes "64")))
-    (number_rule (codes "tidy") (codes "0"))) (number_rule (codes "wait") (codes "0"))) (text_rule (codes "disk"))) (text_rule (codes "copy-to"))) (flag_rule (codes "create"))) (flag_rule (codes "version")))
+    (number_rule (codes "tidy") (codes "0"))) (number_rule (codes "wait") (codes "0"))) (number_rule (codes "max-rows") (codes "0")))
+    (text_rule (codes "disk"))) (text_rule (codes "copy-to"))) (flag_rule (codes "create"))) (flag_rule (codes "version")))
     (flag_rule (codes "explain"))) (flag_rule (codes "stat"))) (flag_rule (codes "clean-when-full"))) (flag_rule (codes "stream")))
     (flag_rule (codes "progress"))
 
@@ -69,7 +71,8 @@ bwsh = with_rule (with_rule (with_rule (with_rule (with_rule (with_rule (with_ru
 abbrev pub number_defaults : List (Text × Text)
 number_defaults = (codes "fan", codes "16") ∷ (codes "chain", codes "4") ∷ (codes "max-key", codes "64")
     ∷ (codes "max-value", codes "256") ∷ (codes "seg-size", codes "65536") ∷ (codes "segments", codes "64")
-    ∷ (codes "pairs", codes "0") ∷ (codes "workers", codes "1") ∷ (codes "grain", codes "64") ∷ (codes "tidy", codes "0") ∷ (codes "wait", codes "0") ∷ []
+    ∷ (codes "pairs", codes "0") ∷ (codes "workers", codes "1") ∷ (codes "grain", codes "64") ∷ (codes "tidy", codes "0") ∷ (codes "wait", codes "0")
+    ∷ (codes "max-rows", codes "0") ∷ []
 
 -- an option that takes a number, as it is parsed
 abbrev pub built_number : Text × Text → Rule

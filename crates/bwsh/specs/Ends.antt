@@ -17,7 +17,7 @@ use Rattle.bwsh.specs.Session.{IsCopyMade, IsShown, IsStart, Reads, Start, devic
 -- settings of the command line.
 abbrev pub IsDoneOn : Request → Option Bytes → Option Bytes → Bytes → Type 0
 IsDoneOn request old new text =
-    (parsed : List Line) × AreRead (parse_text request.mode.stream text) parsed × (request.mode.stream ≡ false → first_bad 1 (parse_text false text) ≡ None)
+    (parsed : List Line) × AreRead request.mode.stream (parse_text request.mode.stream text) parsed × (request.mode.stream ≡ false → first_bad 1 (parse_text false text) ≡ None)
     × ((start : Start) × IsStart request start × IsOk start × (shown : Reads) × IsShown request start shown (session_orders request parsed)
     × (end_from request.mode.stream start shown (session_orders request parsed) ≡ Ok tt)
     × Appends old new (flat (lines_from request.mode.stream start shown (session_orders request parsed)))
@@ -26,7 +26,7 @@ IsDoneOn request old new text =
 -- a beginning of those answers was printed; after it, in a stream, the line for a failed device, or a part of that line
 abbrev pub HasBegunOn : Request → Option Bytes → Option Bytes → Bytes → Type 0
 HasBegunOn request old new text =
-    (parsed : List Line) × AreRead (parse_text request.mode.stream text) parsed
+    (parsed : List Line) × AreRead request.mode.stream (parse_text request.mode.stream text) parsed
     × ((start : Start) × IsStart request start × (shown : Reads) × IsShown request start shown (session_orders request parsed)
     × ((front : Bytes) × (last : Bytes) × BeginsWith (flat (lines_from request.mode.stream start shown (session_orders request parsed))) front
     × BeginsWith (device_line request.mode.stream) last × Appends old new (front ++ last)))

@@ -1,7 +1,7 @@
 -- How a line of a batch file is parsed.
 use Rattle.std.specs.Prelude.{ℕ, Bool, ◌&&◌, List, [], ◌∷◌, Option, Some, None, Result, Ok, Err, codes, length, take, nat_eq, nat_lt, if◌then◌else◌}
 use Rattle.std.specs.List.{starts_with}
-use Rattle.std.specs.Option.{ok_or, option_map, option_zip}
+use Rattle.std.specs.Option.{ok_or, option_map, option_zip, unwrap_or}
 use Rattle.std.specs.Str.{bytes_eq}
 use Rattle.std.specs.declared.alloc.Global.{Global}
 use Rattle.keys.specs.Bytes.{Bytes}
@@ -13,7 +13,7 @@ use Rattle.bwsh.specs.declared.line.Line.TheVariants as line_variants
 use Rattle.bwsh.specs.declared.order.Order.{Order}
 use Rattle.bwsh.specs.declared.order.Order.TheVariants.{Flush, Clean, Upgrade, Verify, Stat, Copy, Tidy, Back, Prefix, Help}
 use Rattle.bwsh.specs.declared.line.Why.{Why}
-use Rattle.bwsh.specs.declared.line.Why.TheVariants.{UnknownCommand, WordCount, BadToken, BadNumber, TooLong}
+use Rattle.bwsh.specs.declared.line.Why.TheVariants.{UnknownCommand, WordCount, BadToken, BadNumber, TooLong, TooManyRows}
 use Rattle.bwsh.specs.Number.{number_in}
 use Rattle.bwsh.specs.Token.{token_bytes}
 use Rattle.bwsh.specs.Words.{words_of}
@@ -25,6 +25,7 @@ why_text WordCount = codes "wrong number of words"
 why_text BadToken = codes "bad token"
 why_text BadNumber = codes "bad number"
 why_text TooLong = codes "line too long"
+why_text TooManyRows = codes "too many rows"
 
 -- the key in these words
 abbrev pub only_key : List Bytes → Result (Bytes) Why
@@ -138,22 +139,29 @@ parse_dot word following =
     if bytes_eq word (codes ".prefix") then parse_prefix following else
     Bad UnknownCommand)))))
 
--- the line of this word and the words after it; words that begin with a dot are known only in a stream
-abbrev pub parse_command : Bool → Bytes → List Bytes → Line
-parse_command dots word following =
-    if bytes_eq word (codes "put") then command_or_bad (λ (k, v). Put k v) (key_and_value following) else (
-    if bytes_eq word (codes "add") then command_or_bad (λ (k, v). Add k v) (key_and_value following) else (
-    if bytes_eq word (codes "get") then command_or_bad Get (only_key following) else (
-    if bytes_eq word (codes "del") then command_or_bad Del (only_key following) else (
-    if bytes_eq word (codes "scan") then parse_scan following else (
-    if bytes_eq word (codes "wipe") then parse_wipe following else
-    if dots && starts_with nat_eq word (codes ".") then parse_dot word following else
-    parse_order word following)))))
+-- the line of this word and the words after it, if the word is that of a command
+abbrev pub parse_command : Bytes → List Bytes → Option Line
+parse_command word following =
+    if bytes_eq word (codes "put") then Some (command_or_bad (λ (k, v). Put k v) (key_and_value following)) else (
+    if bytes_eq word (codes "add") then Some (command_or_bad (λ (k, v). Add k v) (key_and_value following)) else (
+    if bytes_eq word (codes "get") then Some (command_or_bad Get (only_key following)) else (
+    if bytes_eq word (codes "del") then Some (command_or_bad Del (only_key following)) else (
+    if bytes_eq word (codes "scan") then Some (parse_scan following) else (
+    if bytes_eq word (codes "wipe") then Some (parse_wipe following) else
+    None)))))
+
+-- the line of another word; words that begin with a dot are known only in a stream
+abbrev pub parse_other : Bool → Bytes → List Bytes → Line
+parse_other dots word following = if dots && starts_with nat_eq word (codes ".") then parse_dot word following else parse_order word following
+
+-- the line of this word and the words after it
+abbrev pub parse_by : Bool → Bytes → List Bytes → Line
+parse_by dots word following = unwrap_or (parse_command word following) (parse_other dots word following)
 
 -- the line of these words: blank if there are none, or if the first word begins with `#`
 abbrev pub parse_words : Bool → List Bytes → Line
 parse_words dots [] = Blank
-parse_words dots (word ∷ following) = if starts_with nat_eq word (codes "#") then Blank else parse_command dots word following
+parse_words dots (word ∷ following) = if starts_with nat_eq word (codes "#") then Blank else parse_by dots word following
 
 -- the most bytes of a line in a stream, unless it is a comment; a line of the longest words, with each byte escaped, has fewer
 abbrev pub most_in_line : ℕ

@@ -16,6 +16,7 @@ use Rattle.keys.specs.Limits.{first_bad_field}
 use Rattle.keys.specs.LogSize.{room_of_pairs}
 use Rattle.bwsh.specs.declared.options.asked.Options.{Options}
 use Rattle.bwsh.specs.declared.options.asked.Mode.{Mode}
+use Rattle.bwsh.specs.declared.order.Bounds.{Bounds}
 
 -- a text, as its bytes
 abbrev pub Text : Type 0
@@ -28,7 +29,7 @@ texts = map string_bytes
 -- the options that take a number
 abbrev pub number_names : List Text
 number_names = codes "fan" ∷ codes "chain" ∷ codes "max-key" ∷ codes "max-value" ∷ codes "seg-size" ∷ codes "segments"
-    ∷ codes "pairs" ∷ codes "workers" ∷ codes "grain" ∷ codes "tidy" ∷ codes "wait" ∷ []
+    ∷ codes "pairs" ∷ codes "workers" ∷ codes "grain" ∷ codes "tidy" ∷ codes "wait" ∷ codes "max-rows" ∷ []
 
 -- the option takes a number
 abbrev pub takes_number : Text → Bool
@@ -213,8 +214,13 @@ mode_of given = record {
   stream = is_given (codes "stream") given;
   tidy = number_or 0 (codes "tidy") given;
   wait = number_or 0 (codes "wait") given;
+  max_rows = number_or 0 (codes "max-rows") given;
   progress = is_given (codes "progress") given;
 }
+
+-- the bounds of the batches of a session in this mode
+abbrev pub bounds_of : Mode → Bounds
+bounds_of mode = record { is_stream = mode.stream; max_rows = mode.max_rows }
 
 -- what words ask for: the six settings; the crew; the file of the store, if there is one; whether that file is created; the new file to which the
 -- store is copied, if there is one; and the mode of the session

@@ -45,7 +45,7 @@ use Rattle.bwsh.specs.declared.session.SessionError.TheVariants as errors
 use Rattle.bwsh.specs.declared.show.StoreNumbers.{StoreNumbers}
 use Rattle.bwsh.specs.BatchFile.{AreRead, IsReadError, first_bad, orders_in, parse_text}
 use Rattle.bwsh.specs.Line.{why_text}
-use Rattle.bwsh.specs.Options.{Text, Request, AsksFor, AsksForReports, AsksForText, AsksToExplain, AreRefused, copy_of}
+use Rattle.bwsh.specs.Options.{Text, Request, AsksFor, AsksForReports, AsksForText, AsksToExplain, AreRefused, bounds_of, copy_of}
 use Rattle.bwsh.specs.Output.{BeginsWith, IsBegun}
 use Rattle.bwsh.specs.Shown.{help_lines, shown_reply, shown_rows, shown_flushed, shown_cleaned, shown_upgraded, shown_report, shown_numbers, shown_settings, shown_tidied, shown_copied}
 
@@ -539,7 +539,7 @@ lines_from on (Ok p) shown orders = answered on p.0 p.1.0 shown (contents p.1.0.
 
 -- the orders of a session with these lines, with the order for the numbers if the words ask for them
 abbrev pub session_orders : Request → List Line → List Order
-session_orders request parsed = orders_in request.mode.stream request.mode.stat parsed
+session_orders request parsed = orders_in (bounds_of request.mode) request.mode.stat parsed
 
 -- known bytes are extended by a prefix of the report of this end, if a clause can give it, followed by these bytes
 abbrev pub IsReportedWith : Bytes → Result (Unit {0}) SessionError → Option Bytes → Option Bytes → Type 0
@@ -767,7 +767,7 @@ RunsRequest request parsed old new end = (start : Start) × IsStart request star
 -- the same for the lines that were read of the known bytes; or an allocation for the store failed, and nothing is printed
 abbrev pub RunsRead : Request → Option Bytes → Option Bytes → Option Bytes → Result (Unit {0}) SessionError → Type 0
 RunsRead request known old new end =
-    ((parsed : List Line) × IfSome known (λ text. AreRead (parse_text request.mode.stream text) parsed) × RunsRequest request parsed old new end)
+    ((parsed : List Line) × IfSome known (λ text. AreRead request.mode.stream (parse_text request.mode.stream text) parsed) × RunsRequest request parsed old new end)
     ⊎ ((end ≡ Err (errors.Fault NoMemory)) × Appends old new [])
 
 -- a session with this start may end in this way before anything is run
@@ -799,8 +799,8 @@ IsUnread request bad old new (Err early) = IsReadError bad early × (request.mod
 
 -- these lines were read: without `--stream` those of this text, in a stream those of the known bytes
 abbrev pub AreReadOf : Bool → Option Bytes → Bytes → List Line → Type 0
-AreReadOf false known text parsed = AreRead (parse_text false text) parsed
-AreReadOf true known text parsed = IfSome known (λ bytes. AreRead (parse_text true bytes) parsed)
+AreReadOf false known text parsed = AreRead false (parse_text false text) parsed
+AreReadOf true known text parsed = IfSome known (λ bytes. AreRead true (parse_text true bytes) parsed)
 
 -- The output of a session with this request, and its end, are right for a text, which is the known one, for the lines that were read of it, for a
 -- start, and for the events at each order, except for devices. A text without `--stream` then has no bad line. If the session is asked for a copy, it

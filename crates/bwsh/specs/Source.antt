@@ -6,10 +6,9 @@ use Rattle.std.specs.Io.KnownBytes.{Consumes, IsAtEnd}
 use Rattle.bstr.specs.Text.{last_byte_of, without_terminator}
 use Rattle.keys.specs.Bytes.{Bytes}
 use Rattle.bwsh.specs.declared.line.Line.{Line}
-use Rattle.bwsh.specs.declared.line.Line.TheVariants as line_variants
 use Rattle.bwsh.specs.declared.order.Order.{Order}
 use Rattle.bwsh.specs.declared.source.Source.{Source}
-use Rattle.bwsh.specs.BatchFile.{AreRead, Pending, asked, last_order, parse_text}
+use Rattle.bwsh.specs.BatchFile.{AreRead, IsReadAs, Pending, asked, last_order, parse_text}
 use Rattle.bwsh.specs.BatchFile.Pending.{begun, skipped}
 use Rattle.bwsh.specs.Line.{most_in_line, parse_line}
 
@@ -22,14 +21,14 @@ is_line stream (Some byte) = not stream || nat_eq byte 10
 abbrev pub IsParsed : Bool → Bytes → Option Line → Type 0
 IsParsed stream bytes None = is_line stream (last_byte_of bytes) ≡ false
 IsParsed stream bytes (Some line) =
-    (is_line stream (last_byte_of bytes) ≡ true) × ((line ≡ parse_line stream (without_terminator bytes)) ⊎ (line ≡ line_variants.Lost))
+    (is_line stream (last_byte_of bytes) ≡ true) × IsReadAs stream (parse_line stream (without_terminator bytes)) line
 
 -- the next line of known bytes is this one, and these bytes remain; or it was lost; or there is no line
 abbrev pub IsRead : Bool → Option Bytes → Option Bytes → Option Line → Type 0
 IsRead stream known left None = IfSome known (λ text. parse_text stream text ≡ [])
 IsRead stream known left (Some line) =
     IfSome known (λ text. (said : Line) × (rest : Bytes) × (left ≡ Some rest) × (parse_text stream text ≡ said ∷ parse_text stream rest)
-    × ((line ≡ said) ⊎ (line ≡ line_variants.Lost)))
+    × IsReadAs stream said line)
 
 -- bytes of a line were skipped, the last of which is this one; or none, because none remained
 abbrev pub IsSkipped : Option Bytes → Option Bytes → Option ℕ → Type 0
@@ -53,13 +52,13 @@ IsFront known left text false = Consumes known left text × IsLong text
 -- a line was read or not, and nothing else happened
 abbrev pub IsKept : {I : Type 0} → Source I → Source I → Type 0
 IsKept old new =
-    (new.is_stream ≡ old.is_stream) × (new.batch ≡ old.batch) × (new.is_discarded ≡ old.is_discarded) × (new.queued ≡ old.queued)
+    (new.bounds ≡ old.bounds) × (new.batch ≡ old.batch) × (new.is_discarded ≡ old.is_discarded) × (new.queued ≡ old.queued)
     × (new.last ≡ old.last) × (new.is_at_end ≡ old.is_at_end)
 
 -- a line was added to the batch, or ended it, and nothing was read
 abbrev pub IsBatched : {I : Type 0} → Source I → Source I → Type 0
 IsBatched old new =
-    (new.input ≡ old.input) × (new.is_stream ≡ old.is_stream) × (new.number ≡ old.number) × (new.last ≡ old.last) × (new.is_at_end ≡ old.is_at_end)
+    (new.input ≡ old.input) × (new.bounds ≡ old.bounds) × (new.number ≡ old.number) × (new.last ≡ old.last) × (new.is_at_end ≡ old.is_at_end)
 
 -- the batch that no line has ended yet
 abbrev pub pending_of : {I : Type 0} → Source I → Pending
@@ -73,11 +72,11 @@ unended skipped = []
 -- the orders that are still to come if the next lines are these
 abbrev pub to_come : {I : Type 0} → Source I → List Line → List Order
 to_come s parsed =
-    option_to_list s.queued ++ (if s.is_at_end then [] else asked s.is_stream (s.number + 1) (pending_of s) parsed ++ option_to_list s.last)
+    option_to_list s.queued ++ (if s.is_at_end then [] else asked s.bounds (s.number + 1) (pending_of s) parsed ++ option_to_list s.last)
 
 -- these orders can still come, if this is known of the remaining input: each line of it as parsed, or lost
 abbrev pub IsToCome : {I : Type 0} → (I → Option Bytes) → Source I → List Order → Type 0
-IsToCome known s orders = (parsed : List Line) × IfSome (known s.input) (λ text. AreRead (parse_text s.is_stream text) parsed) × (orders ≡ to_come s parsed)
+IsToCome known s orders = (parsed : List Line) × IfSome (known s.input) (λ text. AreRead s.bounds.is_stream (parse_text s.bounds.is_stream text) parsed) × (orders ≡ to_come s parsed)
 
 -- this is the next order, before any that can still come after it; or there is none, and none can come
 abbrev pub IsNext : {I : Type 0} → (I → Option Bytes) → Source I → Source I → Option Order → Type 0
@@ -87,6 +86,6 @@ IsNext known old new (Some order) = (rest : List Order) → IsToCome known new r
 -- The orders of a line are this order, if there is one, and then the queued one. The line that was read counts, or a lost one in its place.
 abbrev pub Orders : {I : Type 0} → Source I → Source I → Line → Option Order → Type 0
 Orders old new line order =
-    (got : Line) × ((got ≡ line) ⊎ (got ≡ line_variants.Lost))
-    × ((rest : List Line) → asked old.is_stream old.number (pending_of old) (got ∷ rest)
-    ≡ option_to_list order ++ (option_to_list new.queued ++ asked old.is_stream (old.number + 1) (pending_of new) rest))
+    (got : Line) × IsReadAs old.bounds.is_stream line got
+    × ((rest : List Line) → asked old.bounds old.number (pending_of old) (got ∷ rest)
+    ≡ option_to_list order ++ (option_to_list new.queued ++ asked old.bounds (old.number + 1) (pending_of new) rest))

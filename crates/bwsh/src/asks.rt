@@ -301,7 +301,7 @@ where
         match order {
             Order::Batch(batch) => self
                 .calls
-                .run_step(store, Step::Batch(batch.as_slice()), out),
+                .run_step(store, Step::Batch(batch.commands()), out),
             Order::BadLine { line, why } => {
                 let (line, why) = (*line, *why);
                 self.report_line(order, &SessionError::Bad { line, why }, out)

@@ -82,6 +82,7 @@ fn line_rule(is_stream: bool, why: Why) -> &'static str {
         Why::BadToken => "Words are printable ASCII, and two hexadecimal digits follow each %.",
         Why::BadNumber => "Numbers go from 0 to 4294967295.",
         Why::TooLong => "A line of a stream has at most 16384 bytes, unless it is a comment.",
+        Why::TooManyRows => "The limits of its scans together are more than --max-rows allows.",
     }
 }
 
@@ -287,6 +288,9 @@ impl<'a> Notes<'a> {
         }
         if self.has_idle_settings() {
             text.push_str("The settings have no effect: an existing store keeps its own.\n")?;
+        }
+        if self.asked.mode.max_rows > 0 && !self.asked.mode.stream {
+            text.push_str("--max-rows has no effect without --stream.\n")?;
         }
         Ok(())
     }

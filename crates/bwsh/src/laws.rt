@@ -1,5 +1,5 @@
 //! Laws about the definitions in `specs/`. Each is the contract of a function with an empty body.
-ghost use Rattle.std.specs.Prelude.{◌≡◌, ◌<◌, ◌≤◌, ◌+◌, ◌-◌, ℕ, Bool, false, true, List, [], ◌∷◌, ◌++◌, length, map, take, Option, Some, None, Result, Ok, Err};
+ghost use Rattle.std.specs.Prelude.{◌≡◌, ◌⊎◌, ◌<◌, ◌≤◌, ◌+◌, ◌-◌, ℕ, Bool, false, true, List, [], ◌∷◌, ◌++◌, length, map, take, Option, Some, None, Result, Ok, Err};
 ghost use Rattle.std.specs.List.{All, flat_map};
 ghost use Rattle.std.specs.declared.alloc.Global.{Global};
 ghost use Rattle.crew.specs.Crew.{is_crew};
@@ -21,14 +21,17 @@ ghost use Rattle.engine.specs.Cleaning.{AreRows, CleanRow, count_of};
 ghost use Rattle.engine.specs.Compacted.{IsCompacted};
 ghost use Rattle.engine.specs.Room.{is_bloated};
 ghost use Rattle.engine.specs.Tidied.{IsTidied, counted_pages};
+ghost use Rattle.engine.specs.Tokens.{most_rows};
 ghost use Rattle.bwsh.specs.declared.line.Line.{Line};
 ghost use Rattle.bwsh.specs.declared.line.Line.TheVariants.{Bad, Go};
 ghost use Rattle.bwsh.specs.declared.line.Line.TheVariants as lines;
 ghost use Rattle.bwsh.specs.declared.line.Why.{Why};
+ghost use Rattle.bwsh.specs.declared.line.Why.TheVariants.{TooManyRows};
+ghost use Rattle.bwsh.specs.declared.order.Bounds.{Bounds};
 ghost use Rattle.bwsh.specs.declared.order.Order.{Order};
 ghost use Rattle.bwsh.specs.declared.order.Order.TheVariants.{Batch, BadLine, Lost, Flush, Clean, Upgrade, Verify, Numbers, Stat, Copy, Tidy, Back, Prefix, Help};
 ghost use Rattle.bwsh.specs.declared.session.SessionError.{SessionError};
-ghost use Rattle.bwsh.specs.BatchFile.{IsBatch, IsForBatches, IsInBatch, IsNoClean, IsWithin, asked, batch_lines, commands_of, commands_of_lines, first_bad, is_short, orders_of};
+ghost use Rattle.bwsh.specs.BatchFile.{IsBatch, IsForBatches, IsInBatch, IsNoClean, IsReadAs, IsWithin, asked, batch_lines, commands_of, commands_of_lines, first_bad, are_within_bounds, asks_too_much, orders_of};
 ghost use Rattle.bwsh.specs.BatchFile.Pending.{begun, skipped};
 ghost use Rattle.bwsh.specs.Laws.{AreAnsweredAlike, PrintsAfter, PrintsOnly};
 ghost use Rattle.bwsh.specs.Options.{Request};
@@ -183,14 +186,14 @@ pub fn tidying_changes_no_replies()
         ≡ left_by_step settings (st, file) (step_in order) }
 {}
 
-/// If no line is bad or lost, and in a stream no batch is too long, the orders of a session are
-/// those of its text. A stream in which no order is refused prints all answers. A session without
+/// If no line is bad or lost, and in a stream no batch is too long or asks for too many rows, the
+/// orders of a session are those of its text. A stream in which no order is refused prints all answers. A session without
 /// `--stream` prints the answers of the orders before the first refusal, and the lines of the cleans
 /// in front of the refused order. A bad line after n good lines has the number n + 1.
 pub fn a_text_is_a_stream_that_was_read_to_its_end()
-    ensures orders { (stream : Bool) → (parsed : List Line) → IsWithin parsed →
-        is_short stream (orders_of [] parsed) ≡ true →
-        asked stream 1 (begun []) parsed ≡ orders_of [] parsed }
+    ensures orders { (bounds : Bounds) → (parsed : List Line) → IsWithin parsed →
+        are_within_bounds bounds (orders_of [] parsed) ≡ true →
+        asked bounds 1 (begun []) parsed ≡ orders_of [] parsed }
     ensures stream { (settings : Settings) → (st : Store) → (shown : Reads) → (m : Pairs Bytes) →
         (orders : List Order) → first_refusal settings st shown orders ≡ None →
         answered true settings st shown m orders ≡ answer_lines settings st shown m orders }
@@ -206,8 +209,10 @@ pub fn a_text_is_a_stream_that_was_read_to_its_end()
 /// In a stream, a refused order is answered by one line, after the lines of the cleans in front of
 /// it, and changes no pair. The later orders are answered from the store as it is then, and the
 /// orders end without an error. A bad line is answered at once, and so are a line for which an
-/// allocation failed and the 65,536th command of a batch, which are refused. The rest of the batch
-/// is skipped up to the line that ends it, and if this line is an order, the order is run.
+/// allocation failed, a scan with which the batch asks for too many rows, and the 65,536th command of
+/// a batch. The rest of the batch is skipped up to the line that ends it, and if this line is an
+/// order, the order is run. A line that ends a batch ends it also if an allocation fails for it: it
+/// is then an order that is refused.
 pub fn a_stream_goes_on_after_a_refusal()
     ensures holds { (settings : Settings) → (st : Store) → (seen : Seen) → (order : Order) →
         (fault : Fault) → refusal_of settings st seen order ≡ Some fault →
@@ -220,26 +225,39 @@ pub fn a_stream_goes_on_after_a_refusal()
         ∷ answered true settings (after_order settings st (shown 0) order).0 (later shown) m rest }
     ensures end { (settings : Settings) → (st : Store) → (shown : Reads) → (orders : List Order) →
         orders_end true settings st shown orders ≡ Ok tt }
-    ensures bad { (n : ℕ) → (pending : List (Command Global)) → (why : Why) →
-        (rest : List Line) → asked true n (begun pending) (Bad why ∷ rest)
-        ≡ BadLine n why ∷ asked true (n + 1) skipped rest }
-    ensures lost { (n : ℕ) → (pending : List (Command Global)) → (rest : List Line) →
-        asked true n (begun pending) (lines.Lost ∷ rest) ≡ Lost ∷ asked true (n + 1) skipped rest }
-    ensures long { (n : ℕ) → (pending : List (Command Global)) → length pending ≡ 65535 →
-        (command : Command Global) → (rest : List Line) →
-        asked true n (begun pending) (lines.Command command ∷ rest)
-        ≡ Batch (pending ++ command ∷ []) ∷ asked true (n + 1) skipped rest }
+    ensures bad { (bounds : Bounds) → (n : ℕ) → (pending : List (Command Global)) → (why : Why) →
+        (rest : List Line) → asked bounds n (begun pending) (Bad why ∷ rest)
+        ≡ BadLine n why ∷ asked bounds (n + 1) skipped rest }
+    ensures lost { (bounds : Bounds) → (n : ℕ) → (pending : List (Command Global)) →
+        (rest : List Line) → asked bounds n (begun pending) (lines.Lost ∷ rest)
+        ≡ Lost ∷ asked bounds (n + 1) skipped rest }
+    ensures rows { (bounds : Bounds) → bounds.is_stream ≡ true → 0 < bounds.max_rows →
+        (n : ℕ) → (pending : List (Command Global)) → (command : Command Global) →
+        bounds.max_rows < most_rows (pending ++ command ∷ []) → (rest : List Line) →
+        asked bounds n (begun pending) (lines.Command command ∷ rest)
+        ≡ BadLine n TooManyRows ∷ asked bounds (n + 1) skipped rest }
+    ensures long { (bounds : Bounds) → bounds.is_stream ≡ true → (n : ℕ) →
+        (pending : List (Command Global)) → length pending ≡ 65535 →
+        (command : Command Global) → asks_too_much bounds (pending ++ command ∷ []) ≡ false →
+        (rest : List Line) → asked bounds n (begun pending) (lines.Command command ∷ rest)
+        ≡ Batch (pending ++ command ∷ []) ∷ asked bounds (n + 1) skipped rest }
+    ensures unbounded { (bounds : Bounds) → bounds.max_rows ≡ 0 →
+        (commands : List (Command Global)) → asks_too_much bounds commands ≡ false }
     ensures lost_refused { (settings : Settings) → (st : Store) → (seen : Seen) →
         seen.fails ≡ None → refusal_of settings st seen Lost ≡ Some NoMemory }
     ensures long_refused { (settings : Settings) → (st : Store) → (seen : Seen) →
         seen.fails ≡ None → (commands : List (Command Global)) → 65535 < length commands →
         refusal_of settings st seen (Batch commands) ≡ Some BatchTooLong }
-    ensures skipped { (n : ℕ) → (front : List Line) → IsInBatch front → (rest : List Line) →
-        asked true n skipped (front ++ Go ∷ rest)
-        ≡ asked true (n + (length front + 1)) (begun []) rest }
-    ensures skipped_order { (n : ℕ) → (front : List Line) → IsInBatch front → (order : Order) →
-        (rest : List Line) → asked true n skipped (front ++ lines.Order order ∷ rest)
-        ≡ order ∷ asked true (n + (length front + 1)) (begun []) rest }
+    ensures skipped { (bounds : Bounds) → (n : ℕ) → (front : List Line) → IsInBatch front →
+        (rest : List Line) → asked bounds n skipped (front ++ Go ∷ rest)
+        ≡ asked bounds (n + (length front + 1)) (begun []) rest }
+    ensures skipped_order { (bounds : Bounds) → (n : ℕ) → (front : List Line) → IsInBatch front →
+        (order : Order) → (rest : List Line) →
+        asked bounds n skipped (front ++ lines.Order order ∷ rest)
+        ≡ order ∷ asked bounds (n + (length front + 1)) (begun []) rest }
+    ensures lost_order { (order : Order) → (got : Line) → IsReadAs true (lines.Order order) got →
+        (got ≡ lines.Order order) ⊎ (got ≡ lines.Order Lost) }
+    ensures go { (got : Line) → IsReadAs true Go got → got ≡ Go }
 {}
 
 /// With valid settings, and if no file fails, a session prints the same with and without

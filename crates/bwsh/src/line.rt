@@ -1,8 +1,9 @@
 //! Parsing the lines of a batch file.
-ghost use Rattle.std.specs.Prelude.{◌≡◌, ◌⊎◌, Some, IfOk};
+ghost use Rattle.std.specs.Prelude.{◌≡◌, Some, IfOk, OnErr, is_some, true};
 ghost use Rattle.bwsh.specs.Token.{token_bytes};
 ghost use Rattle.bwsh.specs.Words.{words_of};
-ghost use Rattle.bwsh.specs.Line.{only_key, key_and_value, bound_of, range_and_limit, parse_scan, parse_wipe, if_alone, parse_back, parse_copy, parse_dot, parse_order, parse_prefix, parse_tidy, parse_command, parse_long, parse_line, why_text};
+ghost use Rattle.bwsh.specs.BatchFile.{IsReadAs};
+ghost use Rattle.bwsh.specs.Line.{only_key, key_and_value, bound_of, range_and_limit, parse_scan, parse_wipe, if_alone, parse_back, parse_by, parse_copy, parse_dot, parse_order, parse_other, parse_prefix, parse_tidy, parse_command, parse_long, parse_line, why_text};
 
 use crate::number::number_in;
 use crate::order::Order;
@@ -25,6 +26,8 @@ pub enum Why {
     BadNumber,
     /// The line of a stream has more than 16,384 bytes, and is no comment.
     TooLong,
+    /// With this line, the scans of the batch ask for more rows than `--max-rows` allows.
+    TooManyRows,
 }
 
 impl fmt::Display for Why {
@@ -37,6 +40,7 @@ impl fmt::Display for Why {
             Why::BadToken => "bad token",
             Why::BadNumber => "bad number",
             Why::TooLong => "line too long",
+            Why::TooManyRows => "too many rows",
         })
     }
 }
@@ -179,48 +183,48 @@ impl LineReader {
         Ok(Line::Command(Command::Wipe(lo, hi)))
     }
 
-    fn command(&mut self, word: &[u8], words: &[u8], has_dots: bool) -> Result<Line, AllocError>
-        ensures { IfOk result (λ parsed.
-            parsed ≡ parse_command has_dots word.now (words_of words.now)) }
+    // Parses a line that begins with the word of a command. Returns `None` for another word.
+    fn command(&mut self, word: &[u8], words: &[u8]) -> Result<Option<Line>, AllocError>
+        ensures parsed { IfOk result (λ parsed.
+            parsed ≡ parse_command word.now (words_of words.now)) }
+        ensures lost { OnErr result
+            (is_some (parse_command word.now (words_of words.now)) ≡ true) }
     {
         if word == b"put".as_slice() {
-            return Ok(match self.key_and_value(words)? {
+            return Ok(Some(match self.key_and_value(words)? {
                 Ok((key, value)) => Line::Command(Command::Put(key, value)),
                 Err(why) => Line::Bad(why),
-            });
+            }));
         }
         if word == b"add".as_slice() {
-            return Ok(match self.key_and_value(words)? {
+            return Ok(Some(match self.key_and_value(words)? {
                 Ok((key, value)) => Line::Command(Command::Add(key, value)),
                 Err(why) => Line::Bad(why),
-            });
+            }));
         }
         if word == b"get".as_slice() {
-            return Ok(match self.only_key(words)? {
+            return Ok(Some(match self.only_key(words)? {
                 Ok(key) => Line::Command(Command::Get(key)),
                 Err(why) => Line::Bad(why),
-            });
+            }));
         }
         if word == b"del".as_slice() {
-            return Ok(match self.only_key(words)? {
+            return Ok(Some(match self.only_key(words)? {
                 Ok(key) => Line::Command(Command::Del(key)),
                 Err(why) => Line::Bad(why),
-            });
+            }));
         }
         if word == b"scan".as_slice() {
-            return self.scan(words);
+            return Ok(Some(self.scan(words)?));
         }
         if word == b"wipe".as_slice() {
-            return self.wipe(words);
+            return Ok(Some(self.wipe(words)?));
         }
-        if has_dots && word.starts_with(b".") {
-            return self.dot(word, words);
-        }
-        Ok(order(word, words))
+        Ok(None)
     }
 
     // Parses `.copy PATH [SEGMENTS]`.
-    fn copy(&mut self, words: &[u8]) -> Result<Line, AllocError>
+    fn try_copy(&mut self, words: &[u8]) -> Result<Line, AllocError>
         ensures { IfOk result (λ parsed. parsed ≡ parse_copy (words_of words.now)) }
     {
         if let Some(path) = only_word(words) {
@@ -248,7 +252,7 @@ impl LineReader {
     }
 
     // Parses `.back LO HI LIMIT`.
-    fn back(&mut self, words: &[u8]) -> Result<Line, AllocError>
+    fn try_back(&mut self, words: &[u8]) -> Result<Line, AllocError>
         ensures { IfOk result (λ parsed. parsed ≡ parse_back (words_of words.now)) }
     {
         Ok(match self.range(words)? {
@@ -258,7 +262,7 @@ impl LineReader {
     }
 
     // Parses `.prefix BYTES LIMIT`.
-    fn prefix(&mut self, words: &[u8]) -> Result<Line, AllocError>
+    fn try_prefix(&mut self, words: &[u8]) -> Result<Line, AllocError>
         ensures { IfOk result (λ parsed. parsed ≡ parse_prefix (words_of words.now)) }
     {
         let Some((bytes, limit)) = two_words(words) else {
@@ -273,18 +277,37 @@ impl LineReader {
         Ok(Line::Order(Order::Prefix(bytes, limit)))
     }
 
-    // Parses a line that begins with a dot.
-    fn dot(&mut self, word: &[u8], words: &[u8]) -> Result<Line, AllocError>
-        ensures { IfOk result (λ parsed. parsed ≡ parse_dot word.now (words_of words.now)) }
+    fn copy(&mut self, words: &[u8]) -> Line
+        ensures { IsReadAs true (parse_copy (words_of words.now)) result }
+    {
+        self.try_copy(words).unwrap_or(Line::Order(Order::Lost))
+    }
+
+    fn back(&mut self, words: &[u8]) -> Line
+        ensures { IsReadAs true (parse_back (words_of words.now)) result }
+    {
+        self.try_back(words).unwrap_or(Line::Order(Order::Lost))
+    }
+
+    fn prefix(&mut self, words: &[u8]) -> Line
+        ensures { IsReadAs true (parse_prefix (words_of words.now)) result }
+    {
+        self.try_prefix(words).unwrap_or(Line::Order(Order::Lost))
+    }
+
+    // Parses a line that begins with a dot. If an allocation fails, it is an order that is refused,
+    // so that it still ends a batch and is answered.
+    fn dot(&mut self, word: &[u8], words: &[u8]) -> Line
+        ensures { IsReadAs true (parse_dot word.now (words_of words.now)) result }
     {
         if word == b".stat".as_slice() {
-            return Ok(if_alone(Line::Order(Order::Stat), words));
+            return if_alone(Line::Order(Order::Stat), words);
         }
         if word == b".help".as_slice() {
-            return Ok(if_alone(Line::Order(Order::Help), words));
+            return if_alone(Line::Order(Order::Help), words);
         }
         if word == b".tidy".as_slice() {
-            return Ok(tidy(words));
+            return tidy(words);
         }
         if word == b".copy".as_slice() {
             return self.copy(words);
@@ -295,30 +318,44 @@ impl LineReader {
         if word == b".prefix".as_slice() {
             return self.prefix(words);
         }
-        Ok(Line::Bad(Why::UnknownCommand))
+        Line::Bad(Why::UnknownCommand)
     }
 
-    fn parse(&mut self, line: &[u8], has_dots: bool) -> Result<Line, AllocError>
-        ensures { IfOk result (λ parsed. parsed ≡ parse_line has_dots line.now) }
+    // Parses a line that begins with another word than that of a command.
+    fn other(&mut self, word: &[u8], words: &[u8], has_dots: bool) -> Line
+        ensures { IsReadAs has_dots (parse_other has_dots word.now (words_of words.now)) result }
+    {
+        if has_dots && word.starts_with(b".") {
+            return self.dot(word, words);
+        }
+        order(word, words)
+    }
+
+    fn by_word(&mut self, word: &[u8], words: &[u8], has_dots: bool) -> Line
+        ensures { IsReadAs has_dots (parse_by has_dots word.now (words_of words.now)) result }
+    {
+        match self.command(word, words) {
+            Ok(Some(line)) => line,
+            Ok(None) => self.other(word, words, has_dots),
+            Err(_) => Line::Lost,
+        }
+    }
+
+    /// Parses a line. Lines that begin with a dot are orders if `has_dots`, as in a stream. If an
+    /// allocation fails, a command is `Line::Lost`, and a line that ends a batch is `Order::Lost`.
+    pub fn read(&mut self, line: &[u8], has_dots: bool) -> Line
+        ensures { IsReadAs has_dots (parse_line has_dots line.now) result }
     {
         if has_dots && line.len() > MOST_BYTES {
-            return Ok(long_line(&line[..MOST_BYTES]));
+            return long_line(&line[..MOST_BYTES]);
         }
         let Some((word, words)) = first_word(line) else {
-            return Ok(Line::Blank);
+            return Line::Blank;
         };
         if word.starts_with(b"#") {
-            return Ok(Line::Blank);
+            return Line::Blank;
         }
-        self.command(word, words, has_dots)
-    }
-
-    /// Parses a line. Lines that begin with a dot are orders if `has_dots`, as in a stream. Returns
-    /// `Line::Lost` if an allocation fails.
-    pub fn read(&mut self, line: &[u8], has_dots: bool) -> Line
-        ensures { (result ≡ parse_line has_dots line.now) ⊎ (result ≡ Line.Lost) }
-    {
-        self.parse(line, has_dots).unwrap_or(Line::Lost)
+        self.by_word(word, words, has_dots)
     }
 }
 

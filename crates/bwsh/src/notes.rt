@@ -127,11 +127,10 @@ impl<'a> Notes<'a> {
     }
 
     pub fn record_line(&self, line: u64, parsed: &Line) {
-        if matches!(parsed, Line::Lost) {
-            return;
+        if !matches!(parsed, Line::Lost | Line::Order(Order::Lost)) {
+            self.unread.set(None);
         }
-        self.unread.set(None);
-        if !self.asked.mode.explain {
+        if !self.asked.mode.explain || matches!(parsed, Line::Lost) {
             return;
         }
         if let Ok(mut lines) = self.lines.try_borrow_mut() {

@@ -34,6 +34,7 @@ const WORK: &[(&str, &str, &str)] = &[
     ("grain", "64", help_text::GRAIN),
     ("tidy", "0", help_text::TIDY),
     ("wait", "0", help_text::WAIT),
+    ("max-rows", "0", help_text::MAX_ROWS),
 ];
 
 // ... and the name and the help of each that takes no value.
@@ -264,6 +265,7 @@ fn mode(matches: &ArgMatches<'_>) -> Mode
         stream: flag_at(matches, "stream"),
         tidy: number_at(matches, "tidy"),
         wait: number_at(matches, "wait"),
+        max_rows: number_at(matches, "max-rows"),
         progress: flag_at(matches, "progress"),
     }
 }

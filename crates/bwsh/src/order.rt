@@ -1,50 +1,19 @@
 //! Orders: what a session does, one after the other.
-ghost use Rattle.std.specs.Prelude.{◌≡◌, [], ◌∷◌, ◌++◌, OnOk, OnErr};
+ghost use Rattle.std.specs.Prelude.{◌≡◌};
 ghost use Rattle.bwsh.specs.BatchFile.{writes};
 
 use crate::line::Why;
-use keys::{Command, Key};
-use std::alloc::{AllocError, Global};
-use std::marker::Model;
+use engine::Batch;
+use keys::Key;
+use std::alloc::Global;
 
-/// The commands of a batch, in order. Contracts see it as a list.
-#[derive(Drop)]
-pub struct Batch {
-    commands: Vec<Command<Global>>,
-}
-
-impl Model for Batch {
-    ghost use Rattle.std.specs.Prelude.{List};
-    ghost use Rattle.std.specs.declared.alloc.Global.{Global};
-    ghost use Rattle.keys.specs.declared.command.Command.{Command};
-
-    ghost Value = { List (Command Global) };
-
-    ghost view = { λ b. b.commands.items };
-}
-
-impl Batch {
-    pub fn new(alloc: Global) -> Self
-        ensures { result ≡ [] }
-    {
-        Batch {
-            commands: Vec::new(alloc),
-        }
-    }
-
-    pub fn push(&mut self, command: Command<Global>) -> Result<(), AllocError>
-        ensures ok { OnOk result (self.new ≡ self.old ++ command ∷ []) }
-        ensures err { OnErr result (self.new ≡ self.old) }
-    {
-        self.commands.push(command)?;
-        Ok(())
-    }
-
-    pub fn as_slice(&self) -> &[Command<Global>]
-        ensures { result.now ≡ self.now }
-    {
-        &self.commands
-    }
+/// What bounds the batches of a session.
+#[derive(Clone, Copy, Debug, PartialEq, Eq)]
+pub struct Bounds {
+    /// Whether the session is a stream. Only a stream bounds its batches.
+    pub is_stream: bool,
+    /// How many rows the scans of a batch may ask for together, or 0 for any number.
+    pub max_rows: u32,
 }
 
 /// One step of a session, which is answered before the next one begins.

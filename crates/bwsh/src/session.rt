@@ -13,7 +13,7 @@ ghost use Rattle.bwsh.specs.declared.session.SessionError.TheVariants.{Device};
 ghost use Rattle.bwsh.specs.declared.session.SessionError.TheVariants as errors;
 ghost use Rattle.bwsh.specs.BatchFile.{AreRead, orders_in, parse_text};
 ghost use Rattle.bwsh.specs.Ends.{HasBegun, IsAllDone, IsBad};
-ghost use Rattle.bwsh.specs.Options.{AsksForReports, AsksToExplain, AreRefused, reports, request_of};
+ghost use Rattle.bwsh.specs.Options.{AsksForReports, AsksToExplain, AreRefused, bounds_of, reports, request_of};
 ghost use Rattle.bwsh.specs.Output.{IsBegun};
 ghost use Rattle.bwsh.specs.Session.{Answers, EndsBy, EndsReported, IsForWords, IsQuiet, IsReportedWith, OrdersAll, Prints, PrintsOneText, RunsRead, error_text, status_of, status_of_end, unread_text, version_text};
 ghost use Rattle.bwsh.specs.Source.{IsToCome};
@@ -185,20 +185,22 @@ where
         &self,
         store: &mut Store<D>,
         input: I,
+        text: Vec<u8>,
         out: &mut O,
     ) -> Result<()>
         requires fine { store.old.has_failed ≡ false }
         ensures { (parsed : List Line)
             × IfSome (I.remaining input)
-            (λ text. AreRead (parse_text self.now.calls.mode.stream text) parsed)
+            (λ text. AreRead self.now.calls.mode.stream
+            (parse_text self.now.calls.mode.stream text) parsed)
             × OrdersAll D.view O.contents self.now.calls.mode
-            (orders_in self.now.calls.mode.stream self.now.calls.mode.stat parsed) store.old out.old
-            result store.new out.new }
+            (orders_in (bounds_of self.now.calls.mode) self.now.calls.mode.stat parsed) store.old
+            out.old result store.new out.new }
     {
         self.notes.store_opened(store.settings());
         let mode = self.calls.mode;
         let last = mode.stat.then_some(Order::Numbers);
-        let mut source = lines::Source::new(self.calls.alloc, input, mode.stream, last);
+        let mut source = lines::Source::new(self.calls.alloc, input, text, mode.bounds(), last);
         let done = self.run_orders(store, &mut source, out);
         drop(source);
         if done.is_err() {
@@ -208,10 +210,12 @@ where
         flush(done, out)
     }
 
-    // Opens the files and answers the orders of `input`. If no error ends them, writes the copy.
+    // Opens the files and answers the orders of `input`, whose lines are read into `text`. If no
+    // error ends them, writes the copy.
     fn run_source<I: BufRead + Drop, O: Write>(
         &self,
         input: I,
+        text: Vec<u8>,
         writes: bool,
         out: &mut O,
     ) -> Result<()>
@@ -222,7 +226,7 @@ where
     {
         let copy = self.prepare_copy()?;
         let mut store = self.open_store(writes)?;
-        let done = self.run_opened(&mut store, input, out);
+        let done = self.run_opened(&mut store, input, text, out);
         self.copy_after(&store, copy, done)
     }
 }
@@ -247,7 +251,7 @@ where
     let at = Session::new(rt, notes, report)?;
     let orders = checked.orders.saturating_add(u64::from(at.calls.mode.stat));
     report.observe(Event::OrdersCounted(orders));
-    at.run_source(text.as_slice(), checked.writes, out)
+    at.run_source(text.as_slice(), Vec::new(notes.alloc), checked.writes, out)
 }
 
 // Runs a session that answers each order before it reads the next line.
@@ -267,8 +271,9 @@ where
     check_open(out)?;
     let at = Session::new(rt, notes, report)?;
     check_input_open(notes, input)?;
+    let text = Vec::with_capacity(notes.alloc, lines::ROOM)?;
     match BufReader::new(notes.alloc, input) {
-        Ok(reader) => at.run_source(reader, true, out),
+        Ok(reader) => at.run_source(reader, text, true, out),
         Err(error) => Err(read_fault(error)),
     }
 }

@@ -1,20 +1,21 @@
 //! The source of a session's orders: reads the lines of a stream or of a text one at a time.
-ghost use Rattle.std.specs.Prelude.{◌≡◌, ◌+◌, ◌++◌, [], List, None, Some, IfOk, IfErr, IfSome, true, if◌then◌else◌, option_to_list};
+ghost use Rattle.std.specs.Prelude.{◌≡◌, ◌==◌, ◌&&◌, ◌+◌, ◌-◌, ◌^◌, ◌++◌, ℕ, [], List, None, Some, IfOk, IfErr, IfSome, false, true, if◌then◌else◌, min, nat_lt, not, option_to_list};
 ghost use Rattle.std.specs.Io.{StopsAt};
 ghost use Rattle.std.specs.Io.BufRead.{drop_through, take_through};
 ghost use Rattle.bstr.specs.Text.{last_byte_of, line_len, without_terminator};
 ghost use Rattle.bwsh.specs.declared.line.Line.{Line};
-ghost use Rattle.bwsh.specs.BatchFile.{asked, is_too_long};
+ghost use Rattle.bwsh.specs.BatchFile.{asked, asks_too_much, is_too_long};
 ghost use Rattle.bwsh.specs.BatchFile.Pending.{begun, skipped};
 ghost use Rattle.bwsh.specs.Source.{IsBatched, IsFront, IsKept, IsLong, IsNext, IsParsed, IsPushed, IsRead, IsSkipped, Orders, is_line, pending_of, to_come, unended};
 
 use crate::context::Session;
-use crate::line::{Line, LineReader, MOST_BYTES};
+use crate::line::{Line, LineReader, MOST_BYTES, Why};
 use crate::notes::Source as FailedSource;
-use crate::order::{Batch, Order};
+use crate::order::{Bounds, Order};
 use crate::progress::{Event, Observer};
 use crate::session::{Result, SessionError};
 use bstr::ByteSlice;
+use engine::Batch;
 use keys::Command;
 use std::alloc::Global;
 use std::io::{BufRead, ErrorKind};
@@ -28,8 +29,16 @@ const MOST_COMMANDS: usize = 65_535;
 // is longer than `MOST_BYTES` even without a line feed and a carriage return at its end.
 const MOST_KEPT: usize = MOST_BYTES + 3;
 
-// How many bytes are reserved for a line of a stream: as many as are kept, and what one read shows.
-const ROOM: usize = MOST_KEPT + 8_192;
+/// How many bytes are reserved for a line of a stream: as many as are kept, and what one read shows.
+pub const ROOM: usize = MOST_KEPT + 8_192;
+
+// Returns whether `rows` are more than a bound, of which 0 is none.
+fn is_beyond(bound: u32, rows: u64) -> bool
+    ensures { (all : ℕ) → rows ≡ min all (2 ^ 64 - 1) →
+        result ≡ (not (bound == 0) && nat_lt bound all) }
+{
+    bound != 0 && u64::from(bound) < rows
+}
 
 // Removes the line feed at the end of `line`, and a carriage return before it.
 fn without_end(line: &[u8]) -> &[u8]
@@ -142,8 +151,9 @@ fn read_front<I: BufRead>(input: &mut I, text: &mut Vec<u8>) -> io::Result<bool>
 pub struct Source<I> {
     input: I,
     alloc: Global,
-    is_stream: bool,
+    bounds: Bounds,
     reader: LineReader,
+    // The last line. In a stream, it never grows beyond the room that is reserved for it.
     text: Vec<u8>,
     // The number of the last line that was read, counted from 1.
     number: u64,
@@ -159,19 +169,20 @@ pub struct Source<I> {
 }
 
 impl<I: BufRead> Source<I> {
-    /// Creates the source of the lines of `input`. `last`, if there is one, comes after them.
-    pub fn new(alloc: Global, input: I, is_stream: bool, last: Option<Order>) -> Self
+    /// Creates the source of the lines of `input`. `last`, if there is one, comes after them. Lines
+    /// are read into `text`, which has room for `ROOM` bytes in a stream.
+    pub fn new(alloc: Global, input: I, text: Vec<u8>, bounds: Bounds, last: Option<Order>) -> Self
         ensures come { (parsed : List Line) → to_come result parsed
-            ≡ asked is_stream 1 (begun []) parsed ++ option_to_list last }
+            ≡ asked bounds 1 (begun []) parsed ++ option_to_list last }
         ensures input { result.input ≡ input }
-        ensures stream { result.is_stream ≡ is_stream }
+        ensures bounds { result.bounds ≡ bounds }
     {
         Source {
             input,
             alloc,
-            is_stream,
+            bounds,
             reader: LineReader::new(alloc),
-            text: Vec::new(alloc),
+            text,
             number: 0,
             batch: Batch::new(alloc),
             is_discarded: false,
@@ -184,16 +195,16 @@ impl<I: BufRead> Source<I> {
     // Returns whether the bytes that were read, of which `last` is the last one, are a line. A
     // stream discards a last line without a line feed, whose writer may have died while writing it.
     fn is_line(&self, last: Option<u8>) -> bool
-        ensures { result ≡ is_line self.now.is_stream last }
+        ensures { result ≡ is_line self.now.bounds.is_stream last }
     {
         match last {
-            Some(byte) => !self.is_stream || byte == b'\n',
+            Some(byte) => !self.bounds.is_stream || byte == b'\n',
             None => false,
         }
     }
 
     fn parse(&mut self) -> Option<Line>
-        ensures parsed { IsParsed self.old.is_stream self.old.text.items result }
+        ensures parsed { IsParsed self.old.bounds.is_stream self.old.text.items result }
         ensures input { self.new.input ≡ self.old.input }
         ensures number { self.new.number ≡ self.old.number }
         ensures kept { IsKept self.old self.new }
@@ -202,14 +213,18 @@ impl<I: BufRead> Source<I> {
         if !self.is_line(last) {
             return None;
         }
-        Some(self.reader.read(without_end(&self.text), self.is_stream))
+        Some(
+            self.reader
+                .read(without_end(&self.text), self.bounds.is_stream),
+        )
     }
 
-    // Skips the rest of a line for which an allocation failed.
+    // Skips the rest of a line of a text for which an allocation failed.
     fn lose_line(&mut self) -> io::Result<Option<Line>>
-        requires { StopsAt self.old.text.items 10 }
+        requires text { self.old.bounds.is_stream ≡ false }
+        requires stops { StopsAt self.old.text.items 10 }
         ensures lost { IfOk result (λ line. IfSome (I.remaining self.old.input) (λ left.
-            IsParsed self.old.is_stream (take_through 10 (self.old.text.items ++ left)) line
+            IsParsed self.old.bounds.is_stream (take_through 10 (self.old.text.items ++ left)) line
             × (I.remaining self.new.input ≡ Some (drop_through 10 (self.old.text.items ++ left))))) }
         ensures number { self.new.number ≡ self.old.number }
         ensures kept { IsKept self.old self.new }
@@ -221,10 +236,10 @@ impl<I: BufRead> Source<I> {
 
     // Skips the rest of a line that is too long for a stream, and parses what was read of it.
     fn end_long_line(&mut self) -> io::Result<Option<Line>>
-        requires stream { self.old.is_stream ≡ true }
+        requires stream { self.old.bounds.is_stream ≡ true }
         requires long { IsLong self.old.text.items }
         ensures parsed { IfOk result (λ line. IfSome (I.remaining self.old.input) (λ left.
-            IsParsed self.old.is_stream (take_through 10 (self.old.text.items ++ left)) line
+            IsParsed self.old.bounds.is_stream (take_through 10 (self.old.text.items ++ left)) line
             × (I.remaining self.new.input ≡ Some (drop_through 10 (self.old.text.items ++ left))))) }
         ensures number { self.new.number ≡ self.old.number }
         ensures kept { IsKept self.old self.new }
@@ -238,16 +253,13 @@ impl<I: BufRead> Source<I> {
 
     // Reads a line of a stream. A long one is not kept.
     fn try_read_bounded(&mut self) -> io::Result<Option<Line>>
-        requires stream { self.old.is_stream ≡ true }
+        requires stream { self.old.bounds.is_stream ≡ true }
         requires empty { self.old.text.items ≡ [] }
-        ensures read { IfOk result (IsRead self.old.is_stream (I.remaining self.old.input)
+        ensures read { IfOk result (IsRead self.old.bounds.is_stream (I.remaining self.old.input)
             (I.remaining self.new.input)) }
         ensures number { self.new.number ≡ self.old.number }
         ensures kept { IsKept self.old self.new }
     {
-        if self.text.reserve(ROOM).is_err() {
-            return self.lose_line();
-        }
         if read_front(&mut self.input, &mut self.text)? {
             return Ok(self.parse());
         }
@@ -255,13 +267,13 @@ impl<I: BufRead> Source<I> {
     }
 
     fn try_read(&mut self) -> io::Result<Option<Line>>
-        ensures read { IfOk result (IsRead self.old.is_stream (I.remaining self.old.input)
+        ensures read { IfOk result (IsRead self.old.bounds.is_stream (I.remaining self.old.input)
             (I.remaining self.new.input)) }
         ensures number { self.new.number ≡ self.old.number }
         ensures kept { IsKept self.old self.new }
     {
         self.text.clear();
-        if self.is_stream {
+        if self.bounds.is_stream {
             return self.try_read_bounded();
         }
         match self.input.read_until(b'\n', &mut self.text) {
@@ -273,7 +285,7 @@ impl<I: BufRead> Source<I> {
 
     // Reads and parses the next line. Returns `None` at the end of the input.
     fn read_line<R, P: Observer>(&mut self, at: &Session<'_, R, P>) -> Result<Option<Line>>
-        ensures read { IfOk result (IsRead self.old.is_stream (I.remaining self.old.input)
+        ensures read { IfOk result (IsRead self.old.bounds.is_stream (I.remaining self.old.input)
             (I.remaining self.new.input)) }
         ensures device { IfErr result (λ early. early ≡ SessionError.Device) }
         ensures number { IfOk result (λ _. self.new.number ≡ self.old.number + 1) }
@@ -335,9 +347,15 @@ impl<I: BufRead> Source<I> {
     }
 
     fn is_too_long(&self) -> bool
-        ensures { result ≡ is_too_long self.now.is_stream self.now.batch }
+        ensures { result ≡ is_too_long self.now.bounds self.now.batch }
     {
-        self.is_stream && self.batch.as_slice().len() > MOST_COMMANDS
+        self.bounds.is_stream && self.batch.len() > MOST_COMMANDS
+    }
+
+    fn asks_too_much(&self) -> bool
+        ensures { result ≡ asks_too_much self.now.bounds self.now.batch }
+    {
+        self.bounds.is_stream && is_beyond(self.bounds.max_rows, self.batch.most_rows())
     }
 
     fn add(&mut self, command: Command<Global>) -> Option<Order>
@@ -351,6 +369,10 @@ impl<I: BufRead> Source<I> {
         }
         if self.batch.push(command).is_err() {
             return self.discard(Order::Lost);
+        }
+        if self.asks_too_much() {
+            let (line, why) = (self.number, Why::TooManyRows);
+            return self.discard(Order::BadLine { line, why });
         }
         if self.is_too_long() {
             let batch = self.end_batch();
@@ -370,7 +392,7 @@ impl<I: BufRead> Source<I> {
         ensures pending { pending_of self.new ≡ begun [] }
         ensures kept { IsBatched self.old self.new }
     {
-        if self.is_discarded || self.batch.as_slice().is_empty() {
+        if self.is_discarded || self.batch.is_empty() {
             let _ = self.end_batch();
             return order;
         }
@@ -405,7 +427,7 @@ impl<I: BufRead> Source<I> {
             ≡ unended (pending_of self.old) ++ option_to_list self.old.last }
         ensures queued { result ≡ None → self.new.queued ≡ None }
         ensures ended { self.new.is_at_end ≡ true }
-        ensures stream { self.new.is_stream ≡ self.old.is_stream }
+        ensures bounds { self.new.bounds ≡ self.old.bounds }
     {
         self.is_at_end = true;
         let last = self.last.take();
@@ -417,7 +439,7 @@ impl<I: BufRead> Source<I> {
     pub fn next<R, P: Observer>(&mut self, at: &Session<'_, R, P>) -> Result<Option<Order>>
         ensures next { IfOk result (IsNext I.remaining self.old self.new) }
         ensures device { IfErr result (λ early. early ≡ SessionError.Device) }
-        ensures stream { self.new.is_stream ≡ self.old.is_stream }
+        ensures bounds { self.new.bounds ≡ self.old.bounds }
     {
         if let Some(order) = self.queued.take() {
             return Ok(Some(order));

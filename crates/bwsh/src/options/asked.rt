@@ -1,4 +1,8 @@
 //! The options of the command line.
+ghost use Rattle.std.specs.Prelude.{◌≡◌};
+ghost use Rattle.bwsh.specs.Options.{bounds_of};
+
+use crate::order::Bounds;
 use engine::Crew;
 use keys::Settings;
 
@@ -38,6 +42,20 @@ pub struct Mode {
     pub tidy: u32,
     /// For how many seconds to wait, at most, for the lock of a file.
     pub wait: u32,
+    /// How many rows the scans of a batch of a stream may ask for together, or 0 for any number.
+    pub max_rows: u32,
     /// Show progress on standard error.
     pub progress: bool,
+}
+
+impl Mode {
+    /// Returns the bounds of the batches of a session.
+    pub fn bounds(&self) -> Bounds
+        ensures { result ≡ bounds_of self.now }
+    {
+        Bounds {
+            is_stream: self.stream,
+            max_rows: self.max_rows,
+        }
+    }
 }

@@ -28,6 +28,9 @@ pub const TIDY: &str =
 
 pub const WAIT: &str = "Seconds to wait while another program has locked a file";
 
+pub const MAX_ROWS: &str =
+    "Rows that the scans of a batch may ask for, with --stream; 0 is no bound";
+
 pub const DISK: &str = "File of the store; without it the store is in memory, and is lost at exit";
 
 pub const COPY_TO: &str = "Copies the store to this new, empty or unfinished file after all lines";

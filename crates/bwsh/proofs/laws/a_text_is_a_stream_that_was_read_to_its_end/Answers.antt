@@ -6,7 +6,7 @@ use Rattle.bwsh.proofs.laws.a_text_is_a_stream_that_was_read_to_its_end.Goals as
 
 pub returns : goal.returns
 returns c = record {
-  orders = λ stream parsed within short. asked-orders_of stream 1 [] parsed within short;
+  orders = λ bounds parsed good within. asked-orders_of bounds 1 [] parsed good within;
   stream = answered-all;
   text = answered-accepted;
   found = first_bad-after;

@@ -12,4 +12,5 @@ returns c = λ given all rows.
     (c.flag_at-5.ensures refl given all rows)
     (field_read (codes "tidy") (codes "0") 0 given _ _ refl refl refl refl all rows c.number_at.ensures)
     (field_read (codes "wait") (codes "0") 0 given _ _ refl refl refl refl all rows c.number_at-2.ensures)
+    (field_read (codes "max-rows") (codes "0") 0 given _ _ refl refl refl refl all rows c.number_at-3.ensures)
     (c.flag_at-6.ensures refl given all rows)

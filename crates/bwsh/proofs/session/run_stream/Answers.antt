@@ -1,4 +1,4 @@
-use Rattle.std.proofs.Common.{inr, refl, subst}
+use Rattle.std.proofs.Common.{inl, inr, refl, subst}
 use Rattle.std.proofs.KnownBytes.{Keeps-refl}
 use Rattle.std.proofs.lemmas.Result.{err_from_is_err_and}
 use Rattle.std.specs.Io.Buffered.{reader_buffer, reader_capacity, reader_inner, reader_remaining}
@@ -24,6 +24,11 @@ pub returns-in_err-check_input_open : goal.returns-in_err-check_input_open
 returns-in_err-check_input_open g c =
     let p = err_from_is_err_and c.from_residual-in_err-check_input_open.result c.from_residual-in_err-check_input_open.ensures.1 in
     rw (p.1, p.2) (Answers-cut (request_of c.args.notes.now.asked.now) _ _ _ _ c.in_err-check_input_open.ensures.either c.check_open.ensures.bytes)
+
+pub returns-in_err-text : goal.returns-in_err-text
+returns-in_err-text g c =
+    let p = err_from_is_err_and c.from_residual-in_err-text.result c.from_residual-in_err-text.ensures.1 in
+    rw (p.1, p.2) (Answers-cut (request_of c.args.notes.now.asked.now) _ _ _ _ (inl refl) c.check_open.ensures.bytes)
 
 pub returns-in-Err : goal.returns-in-Err
 returns-in-Err g c = Answers-cut (request_of c.args.notes.now.asked.now) _ _ _ c.read_fault.result c.read_fault.ensures.either c.check_open.ensures.bytes

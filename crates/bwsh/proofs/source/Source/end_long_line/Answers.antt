@@ -12,5 +12,5 @@ returns-clause-parsed g c =
     let left = g.I.Read.remaining c.skip_rest.new.input in
     let last = c.in_ok-last.last in
     let whole : IsSkippedWhole known left text last = subst (λ (read : List ℕ). IsSkippedWhole known left read last) c.deref.ensures.value c.in_ok-last.ensures in
-    long_parsed source.is_stream c.requires.stream known left text c.without_end.result.now last c.is_line.result c.read.result whole c.is_line.ensures c.if-not-is_line.false
+    long_parsed source.bounds.is_stream c.requires.stream known left text c.without_end.result.now last c.is_line.result c.read.result whole c.is_line.ensures c.if-not-is_line.false
     c.requires.long (c.without_end.ensures ∙ ap without_terminator c.deref-2.ensures.value) c.read.ensures

@@ -9,4 +9,4 @@ returns-clause-lost g c =
     let left = g.I.Read.remaining c.skip_rest.new.input in
     let last = c.in_ok-last.last in
     let whole : IsSkippedWhole known left text last = subst (λ (read : List ℕ). IsSkippedWhole known left read last) c.deref.ensures.value c.in_ok-last.ensures in
-    IsParsed-lost c.args.self.now.is_stream known left text last c.is_line.result c.then_some.result whole c.is_line.ensures c.then_some.ensures
+    IsParsed-lost c.args.self.now.bounds.is_stream c.requires.text known left text last c.is_line.result c.then_some.result whole c.is_line.ensures c.then_some.ensures

@@ -5,7 +5,7 @@ use Rattle.bwsh.proofs.source.Source.next.Goals as goal
 pub loop-init : goal.loop-init
 loop-init g c = record {
   queued = c.take.ensures.after;
-  stream = refl;
+  bounds = refl;
   comes = IsToCome-taken g.I.Read.remaining c.args.self.now c.take.new.self (sym c.take.ensures.value ∙ c.in_default.is) c.take.ensures.after;
 }
 
@@ -41,7 +41,7 @@ loop-preserved g c =
     let some = rw c.in-Some-2.is at c.in_ok-line.ensures.read in
     record {
       queued = c.order_of.ensures.queued next.is;
-      stream = c.order_of.ensures.kept.1 ∙ read.ensures.kept.0 ∙ before.invariant.stream;
+      bounds = c.order_of.ensures.kept.1 ∙ read.ensures.kept.0 ∙ before.invariant.bounds;
       comes = λ rest can.
           before.invariant.comes rest
           (IsToCome-line g.I.Read.remaining before.self read.new.self c.order_of.new.self None before.invariant.queued c.if-self.false read.ensures.kept

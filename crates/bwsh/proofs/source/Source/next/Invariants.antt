@@ -7,6 +7,6 @@ use Rattle.bwsh.proofs.source.Source.next.Given as goal
 abbrev pub invariant-loop : goal.invariant-loop
 invariant-loop g l = record {
   queued : l.self.queued ≡ None;
-  stream : l.self.is_stream ≡ l.fn.self.is_stream;
+  bounds : l.self.bounds ≡ l.fn.self.bounds;
   comes : (rest : List Order) → IsToCome g.I.Read.remaining l.self rest → IsToCome g.I.Read.remaining l.fn.self rest;
 }
