@@ -129,6 +129,20 @@ def fail_to_create(programs: Programs, library: Path) -> Outcome:
     return Outcome()
 
 
+def fail_to_sync_folder(programs: Programs, library: Path) -> Outcome:
+    """A store or a copy in a new file fails if the name of the file can't be made durable. A store that is there stays as it is."""
+    with failing_store(programs, library) as store:
+        store.make(b"put a 1\nflush\n", b"new\nflushed 2\n")
+        before, copy = store.file.read_bytes(), store.file.with_name("copy")
+        environment = FailingCalls("sync").environment(library, store.file.parent)
+        wrong = differs(run([store.program, *store.create_words()], b"get a\n", environment=environment), 4, b"", DEVICE)
+        copied = run([store.program, "--stream", *store.open_words()], b".copy %s\nget a\n" % os.fsencode(copy), environment=environment)
+        wrong = wrong or differs(copied, 0, DEVICE + b"value 1\n")
+        copied = run([store.program, "--disk", store.file, *SMALL_STORE, "--copy-to", copy], b"get a\n", environment=environment)
+        wrong = wrong or differs(copied, 4, b"", DEVICE)
+        return Outcome(wrong or (None if store.file.read_bytes() == before and not copy.stat().st_size else "a file was written"))
+
+
 EMPTIED = [FailingCalls("length"), FailingCalls("cut"), FailingCalls("cut", 2), FailingCalls("write"), FailingCalls("sync")]
 
 
@@ -394,6 +408,7 @@ def cases(programs: Programs, library: Path) -> list[Case]:
     return [
         *(Case(name, fail_streams, (*arguments, name)) for name in STREAMS),
         Case("making anew fails", fail_to_create, arguments),
+        Case("the folder of a new file cannot be synced", fail_to_sync_folder, arguments),
         *(Case(f"a file without its new store is empty, {name}", stay_empty, (*arguments, name)) for name in EXAMPLES),
         Case(f"a file whose store is not opened stays, {OPENS}", fail_to_open, arguments),
         *(

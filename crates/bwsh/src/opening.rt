@@ -11,7 +11,7 @@ use crate::disk::{Base, LastError, ReportingDisk, StoreDisk, StoreFile};
 use crate::notes::Source;
 use crate::progress::{Event, LongCall, Observer};
 use crate::session::{Result, SessionError};
-use engine::{Disk, FileDisk, LockFile, MemDisk, Store, admit_file};
+use engine::{Disk, FileDisk, LockFile, MemDisk, Store, admit_file, sync_folder};
 use flush_log::disk_size;
 use keys::Fault;
 use std::fs::{OpenFile, OpenOptions};
@@ -49,8 +49,8 @@ where
     R::File: LockFile,
 {
     /// Opens a file for reading, and for writing if `writes`, and locks it: exclusively if
-    /// `writes`, and shared otherwise. If `creates`, creates a missing file. If another program has
-    /// locked the file, tries again for about as many seconds as `--wait` gives, and then fails
+    /// `writes`, and shared otherwise. If `creates`, creates a missing file, and makes its name
+    /// durable. If another program has locked the file, tries again for about as many seconds as `--wait` gives, and then fails
     /// with `WouldBlock`. Each try opens the file again, because another one may be at the path.
     pub fn open_locked(&self, path: &str, writes: bool, creates: bool) -> io::Result<R::File> {
         for _try in 0..TRIES * u64::from(self.calls.mode.wait) {
@@ -70,6 +70,9 @@ where
         let file = how.open(self.calls.rt, path)?;
         if writes { file.hold() } else { file.share() }?;
         admit_file(self.calls.rt, &file, path)?;
+        if creates {
+            sync_folder(self.calls.rt, path)?;
+        }
         Ok(file)
     }
 }
