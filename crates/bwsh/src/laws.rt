@@ -187,9 +187,10 @@ pub fn tidying_changes_no_replies()
 {}
 
 /// If no line is bad or lost, and in a stream no batch is too long or asks for too many rows, the
-/// orders of a session are those of its text. A stream in which no order is refused prints all answers. A session without
-/// `--stream` prints the answers of the orders before the first refusal, and the lines of the cleans
-/// in front of the refused order. A bad line after n good lines has the number n + 1.
+/// orders of a session are those of its text. A stream in which no order is refused prints all
+/// answers. A session without `--stream` prints the answers of the orders before the first refusal,
+/// and the lines of the cleans in front of the refused order. A bad line after n good lines has the
+/// number n + 1.
 pub fn a_text_is_a_stream_that_was_read_to_its_end()
     ensures orders { (bounds : Bounds) → (parsed : List Line) → IsWithin parsed →
         are_within_bounds bounds (orders_of [] parsed) ≡ true →

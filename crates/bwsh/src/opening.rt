@@ -50,8 +50,9 @@ where
 {
     /// Opens a file for reading, and for writing if `writes`, and locks it: exclusively if
     /// `writes`, and shared otherwise. If `creates`, creates a missing file, and makes its name
-    /// durable. If another program has locked the file, tries again for about as many seconds as `--wait` gives, and then fails
-    /// with `WouldBlock`. Each try opens the file again, because another one may be at the path.
+    /// durable. If another program has locked the file, tries again for about as many seconds as
+    /// `--wait` gives, and then fails with `WouldBlock`. Each try opens the file again, because
+    /// another one may be at the path.
     pub fn open_locked(&self, path: &str, writes: bool, creates: bool) -> io::Result<R::File> {
         for _try in 0..TRIES * u64::from(self.calls.mode.wait) {
             match self.try_open(path, writes, creates) {
