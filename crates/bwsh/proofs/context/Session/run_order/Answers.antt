@@ -23,7 +23,7 @@ returns-in-Batch-clause-runs g c =
     let store = c.args.store.now in
     let disk = g.D.Disk.view store.disk in
     rw c.in-Batch.is (RunsFirst-one mode disk.is_honest store.settings store.store disk.seen (Batch c.in-Batch.batch) _ _ _ _ _
-    (c.run_step.ensures.runs mode (Batch c.in-Batch.batch) (ap (λ (cs : List (Command Global)). Some (Step.Batch cs)) (sym c.as_slice.ensures)) (λ e. absurd (cc))))
+    (c.run_step.ensures.runs mode (Batch c.in-Batch.batch) (ap (λ (cs : List (Command Global)). Some (Step.Batch cs)) (sym c.commands.ensures)) (λ e. absurd (cc))))
 
 pub returns-in-BadLine-clause-runs : goal.returns-in-BadLine-clause-runs
 returns-in-BadLine-clause-runs g c =
