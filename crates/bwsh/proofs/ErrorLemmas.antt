@@ -9,7 +9,7 @@ use Rattle.bwsh.specs.declared.session.SessionError.TheVariants.{Words, Bad, Dev
 use Rattle.bwsh.specs.declared.session.SessionError.TheVariants as errors
 use Rattle.std.proofs.KnownBytes.{Appends-trans}
 use Rattle.bwsh.specs.Options.{Request, AsksFor, AsksForReports, AsksToExplain, reports}
-use Rattle.bwsh.specs.Output.{BeginsWith, IsBegun}
+use Rattle.bwsh.specs.Output.{IsBegun}
 use Rattle.bwsh.specs.Session.{EndsReported, IsQuiet, IsReported, IsReportedWith, status_of_end}
 use Rattle.bwsh.proofs.Prints.{front-longer, front-more, front-whole}
 

@@ -9,7 +9,8 @@ use Rattle.bstr.specs.Text.{line_len, lines_from, without_terminator}
 use Rattle.bwsh.specs.declared.line.Line.{Line}
 use Rattle.bwsh.specs.declared.line.Line.TheVariants.{Blank, Go, Bad}
 use Rattle.bwsh.specs.declared.line.Line.TheVariants as line_variants
-use Rattle.bwsh.specs.declared.line.Why.TheVariants.{UnknownCommand, WordCount, BadToken, BadNumber}
+use Rattle.bwsh.specs.declared.line.Why.TheVariants.{UnknownCommand, WordCount, BadToken, BadNumber, TooManyRows}
+use Rattle.bwsh.specs.declared.order.Bounds.{Bounds}
 use Rattle.bwsh.specs.declared.order.Order.TheVariants.{Batch, BadLine, Copy, Flush, Stat, Tidy, Upgrade, Verify}
 use Rattle.bwsh.specs.Token.{token_bytes, shown_token}
 use Rattle.bwsh.specs.Words.{words_of}
@@ -152,17 +153,26 @@ verifies = refl
 an_empty_batch : orders_of [] (Go ∷ Blank ∷ Go ∷ []) ≡ Batch [] ∷ Batch [] ∷ []
 an_empty_batch = refl
 
+-- the bounds of a stream without `--max-rows`
+abbrev streaming : Bounds
+streaming = record { is_stream = true; max_rows = 0 }
+
 -- in a stream a bad line is answered, and its batch is skipped up to the line that ends it
 a_stream : List Line
 a_stream = map (parse_line true) (codes "put a 1" ∷ codes "frob" ∷ codes "get a" ∷ codes "go" ∷ codes "get a" ∷ codes ".stat" ∷ [])
 
-a_skipped_batch : ordered true 1 (begun []) a_stream ≡ BadLine 2 UnknownCommand ∷ Batch (Get (97 ∷ []) ∷ []) ∷ Stat ∷ []
+a_skipped_batch : ordered streaming 1 (begun []) a_stream ≡ BadLine 2 UnknownCommand ∷ Batch (Get (97 ∷ []) ∷ []) ∷ Stat ∷ []
 unfolding a_stream
 a_skipped_batch = refl
 
 -- the line that ends a skipped batch still runs its own order
-a_flush_after_it : ordered true 1 (begun []) (map (parse_line true) (codes "put" ∷ codes "flush" ∷ [])) ≡ BadLine 1 WordCount ∷ Flush ∷ []
+a_flush_after_it : ordered streaming 1 (begun []) (map (parse_line true) (codes "put" ∷ codes "flush" ∷ [])) ≡ BadLine 1 WordCount ∷ Flush ∷ []
 a_flush_after_it = refl
+
+-- a batch may ask for as many rows as `--max-rows` says, and not for one more
+too_many_rows : ordered (record streaming { max_rows = 5 }) 1 (begun []) (map (parse_line true) (codes "scan a * 3" ∷ codes "scan a * 3" ∷ codes "go" ∷ codes "scan a * 5" ∷ codes "go" ∷ []))
+    ≡ BadLine 2 TooManyRows ∷ Batch (Scan (97 ∷ []) None 5 ∷ []) ∷ []
+too_many_rows = refl
 
 -- words that begin with a dot are known only in streams
 a_dot_in_a_text : parse_line false (codes ".stat") ≡ Bad UnknownCommand

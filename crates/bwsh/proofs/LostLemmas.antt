@@ -5,14 +5,13 @@ use Rattle.std.specs.Str.{bytes_eq}
 use Rattle.std.specs.declared.alloc.Global.{Global}
 use Rattle.keys.specs.Bytes.{Bytes}
 use Rattle.keys.specs.declared.command.Command.{Command}
-use Rattle.keys.specs.declared.command.Command.TheVariants.{Get, Put, Add, Del, Scan}
 use Rattle.bwsh.specs.declared.line.Line.{Line}
 use Rattle.bwsh.specs.declared.line.Line.TheVariants as line_variants
 use Rattle.bwsh.specs.declared.line.Why.{Why}
 use Rattle.bwsh.specs.declared.line.Why.TheVariants.{WordCount}
 use Rattle.bwsh.specs.declared.order.Order.TheVariants.{Lost}
 use Rattle.bwsh.specs.BatchFile.{IsReadAs}
-use Rattle.bwsh.specs.Line.{back_of, bound_of, command_or_bad, copy_by, key_and_value, only_key, parse_command, parse_copy, parse_prefix, parse_scan, parse_wipe, prefix_by, range_and_limit, wipe_by}
+use Rattle.bwsh.specs.Line.{back_of, bound_of, command_or_bad, copy_by, key_and_value, only_key, parse_command, parse_copy, parse_prefix, parse_wipe, prefix_by, range_and_limit, wipe_by}
 use Rattle.bwsh.specs.Number.{number_in}
 use Rattle.bwsh.specs.Token.{token_bytes}
 

@@ -1,10 +1,9 @@
 -- Lemmas on lines and their orders.
-use Rattle.std.proofs.Common.{◌≡◌, ◌+◌, ◌||◌, ◌&&◌, ◌==◌, nat_lt, ◌<◌, ◌⊎◌, ℕ, Bool, true, false, cond, ltb, length, not, Option, Some, None, Result, Ok, Err, IfErr, IsErrAnd, arith, List, [], ◌∷◌, ◌++◌, map, refl, sym, ap, ◌∙◌, append_assoc, append-nil, length-append, inl, inr, subst}
+use Rattle.std.proofs.Common.{◌≡◌, ◌+◌, ◌||◌, ◌&&◌, ◌==◌, nat_lt, ◌<◌, ◌⊎◌, ℕ, Bool, true, false, cond, length, not, Option, Some, None, Result, Ok, Err, IfErr, IsErrAnd, arith, List, [], ◌∷◌, ◌++◌, map, refl, sym, ap, ◌∙◌, append_assoc, append-nil, length-append, inl, inr, subst}
 use Rattle.std.specs.List.{AllByRecursion, flat_map, list_all, list_any}
 use Rattle.std.specs.declared.alloc.Global.{Global}
 use Rattle.std.proofs.lemmas.Bool.{and_parts, lt-ltb, ltb-true}
 use Rattle.keys.specs.declared.command.Command.{Command}
-use Rattle.keys.specs.Bytes.{Bytes}
 use Rattle.engine.specs.Tokens.{most_rows, row_limit}
 use Rattle.bwsh.specs.declared.line.Line.{Line}
 use Rattle.bwsh.specs.declared.line.Line.TheVariants.{Blank, Go, Bad}

@@ -1,5 +1,5 @@
 -- Lemmas on the source of a session's orders: the lines that it reads, and their orders.
-use Rattle.std.proofs.Common.{◌≡◌, ◌≢◌, ◌≤◌, ◌<◌, ◌+◌, ◌-◌, ◌==◌, ◌&&◌, ◌||◌, ◌⊎◌, inl, inr, ℕ, suc, length, take, take_all, drop, slice_index, Bool, true, false, cond, List, [], ◌∷◌, ◌++◌, map, filter, All, Option, Some, None, IfSome, option_to_list, Result, Ok, Err, IfOk, OnOk, is_err, is_ok, nat_eq, refl, sym, ap, ◌∙◌, subst, append_assoc, append-nil, arith, lt-ltb, eqb-true, eq-eqb, le_refl, nat_lt, if◌then◌else◌}
+use Rattle.std.proofs.Common.{◌≡◌, ◌≢◌, ◌≤◌, ◌<◌, ◌+◌, ◌-◌, ◌==◌, ◌&&◌, ◌||◌, inl, inr, ℕ, suc, length, take, take_all, drop, slice_index, Bool, true, false, cond, List, [], ◌∷◌, ◌++◌, map, filter, All, Option, Some, None, IfSome, option_to_list, Result, Ok, Err, IfOk, is_err, is_ok, nat_eq, refl, sym, ap, ◌∙◌, subst, append_assoc, append-nil, arith, lt-ltb, eqb-true, eq-eqb, le_refl, nat_lt, if◌then◌else◌}
 use Rattle.std.specs.Bool.{then_some}
 use Rattle.std.specs.Io.{StartsWith, StopsAt, IsEmptyOrEndsWith}
 use Rattle.std.specs.Io.BufRead.{DropsConsumable, DropsThrough, drop_through, ends_with_byte, take_through}

@@ -10,7 +10,6 @@ use Rattle.keys.specs.declared.command.Command.TheVariants.{Get, Put, Add, Del, 
 use Rattle.bwsh.specs.declared.line.Line.{Line}
 use Rattle.bwsh.specs.declared.line.Line.TheVariants.{Blank, Go, Bad}
 use Rattle.bwsh.specs.declared.line.Line.TheVariants as line_variants
-use Rattle.bwsh.specs.declared.order.Order.{Order}
 use Rattle.bwsh.specs.declared.order.Order.TheVariants.{Flush, Clean, Upgrade, Verify, Stat, Copy, Tidy, Back, Prefix, Help}
 use Rattle.bwsh.specs.declared.line.Why.{Why}
 use Rattle.bwsh.specs.declared.line.Why.TheVariants.{UnknownCommand, WordCount, BadToken, BadNumber, TooLong, TooManyRows}

@@ -1,5 +1,5 @@
 -- The source of a session's orders: the lines that it reads, and the orders that are still to come.
-use Rattle.std.specs.Prelude.{◌≡◌, ◌≢◌, ◌≤◌, ◌⊎◌, ◌+◌, ◌||◌, ℕ, Bool, not, true, false, nat_eq, List, [], ◌∷◌, ◌++◌, if◌then◌else◌, option_to_list, Option, Some, None, IfSome, OnSome, length}
+use Rattle.std.specs.Prelude.{◌≡◌, ◌≢◌, ◌≤◌, ◌+◌, ◌||◌, ℕ, Bool, not, true, false, nat_eq, List, [], ◌∷◌, ◌++◌, if◌then◌else◌, option_to_list, Option, Some, None, IfSome, OnSome, length}
 use Rattle.std.specs.Io.{StopsAt}
 use Rattle.std.specs.Io.BufRead.{DropsThrough, take_through}
 use Rattle.std.specs.Io.KnownBytes.{Consumes, IsAtEnd}

@@ -1,4 +1,4 @@
-use Rattle.std.proofs.Common.{◌∷◌, [], ap, subst, sym, Ok, Err}
+use Rattle.std.proofs.Common.{ap, subst, sym, Err}
 use Rattle.std.proofs.lemmas.Result.{err_from_is_err_and}
 use Rattle.keys.specs.Bytes.{Bytes}
 use Rattle.bwsh.specs.declared.order.Order.TheVariants.{Tidy}
